@@ -1,0 +1,2 @@
+-- Commands: the definitions that the contracts cite.
+pub mod Random

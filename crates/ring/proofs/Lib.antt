@@ -1,0 +1,4 @@
+pub mod Unrolled
+pub mod Seconds
+pub mod Rolling
+pub mod Turns
