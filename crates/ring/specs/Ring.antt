@@ -24,6 +24,15 @@ abbrev pub rings : Rule → ℕ → ℕ → List ℕ → List ℕ
 rings r o zero u = u
 rings r o (suc s) u = ring r o (rings r o s u)
 
--- the row comes back: as many seconds of a way back after those of the rule give the row itself, on a ring of any length
+-- a way back undoes the rule on a ring of any length: as many seconds of it after those of the rule give the row itself
 abbrev pub Comes-back : Type 0
 Comes-back = (r : Rule) (v o : ℕ) (t u : List ℕ) → Sound r → Back r v o t → Piece r u → 0 < length u → (s : ℕ) → rings (rule-of (r .kinds) v t) o s (rings r 0 s u) ≡ u
+
+-- and the rule undoes the way back
+abbrev pub Goes-again : Type 0
+Goes-again = (r : Rule) (v o : ℕ) (t u : List ℕ) → Sound r → Back r v o t → Piece r u → 0 < length u → (s : ℕ) → rings r 0 s (rings (rule-of (r .kinds) v t) o s u) ≡ u
+
+-- the theorems about rings
+pub record Round-trips : Type 0 where
+  pub comes-back : Comes-back
+  pub goes-again : Goes-again

@@ -5,7 +5,7 @@ ghost use lib.ListN.{length};
 ghost use Rattle.std.specs.Results.{Cases};
 ghost use Rattle.undone.specs.Local.{the-rule};
 ghost use Rattle.undone.specs.Rules.{Piece};
-ghost use Rattle.ring.specs.Ring.{ring, Comes-back};
+ghost use Rattle.ring.specs.Ring.{ring, Round-trips};
 ghost use Rattle.ring.specs.Seconds.{NotRun, Ran};
 
 #[cfg(test)]
@@ -36,7 +36,7 @@ pub fn step(rule: LocalRule, place: usize, from: &[u32], to: &mut [u32]) -> Resu
     ensures says { λ r. ⌜ Cases r
         (λ _. now (to .exit) ≡ ring (the-rule (rule .entry)) place (now (from .entry)))
         (λ e. (now (to .exit) ≡ now (to .entry)) × NotRun (the-rule (rule .entry)) (now (from .entry)) (length (now (to .entry))) e) ⌝ }
-    ensures comes_back { λ _. ⌜ Comes-back ⌝ }
+    ensures round_trips { λ _. ⌜ Round-trips ⌝ }
 {
     check_ring(rule, from, to.len())?;
     turn(rule, place, from, to);
@@ -54,7 +54,7 @@ pub fn steps(
     ensures says { λ r. ⌜ Cases r
         (Ran (the-rule (rule .entry)) place seconds (now (row .entry)) (now (spare .entry)) (now (row .exit)) (now (spare .exit)))
         (λ e. (now (row .exit) ≡ now (row .entry)) × (now (spare .exit) ≡ now (spare .entry)) × NotRun (the-rule (rule .entry)) (now (row .entry)) (length (now (spare .entry))) e) ⌝ }
-    ensures comes_back { λ _. ⌜ Comes-back ⌝ }
+    ensures round_trips { λ _. ⌜ Round-trips ⌝ }
 {
     check_ring(rule, row, spare.len())?;
     for _two in 0..seconds / 2 {

@@ -7,9 +7,9 @@ use native.Mathlib.Omega.{arith}
 use lib.ListN.{length, take, drop, getD, length-take, length-drop}
 use lib.Seq.{getD-take, getD-drop, ext-getD}
 use Rattle.std.proofs.shelf.Elements.{all-take, all-drop}
-use Rattle.undone.specs.Rules.{Rule, Piece, digits, next, part}
+use Rattle.undone.specs.Rules.{Rule, rule-of, Piece, digits, at, next, part}
 use Rattle.undone.specs.Says.{Back, No-way-back}
-use Rattle.undone.proofs.Next.{next-drop, next-take}
+use Rattle.undone.proofs.Next.{length-next, getD-next, next-drop, next-take}
 use Rattle.undone.proofs.Rows.{length-part, getD-part}
 
 module _ (r : Rule) (some : 1 ≤ r .wide) (v o : ℕ) (t : List ℕ) (way : Back r v o t) where
@@ -32,6 +32,28 @@ module _ (r : Rule) (some : 1 ≤ r .wide) (v o : ℕ) (t : List ℕ) (way : Bac
       sym (back-cell u cells-u i after inside)
       ∙ ap (λ y. getD t (digits (r .kinds) 0 (take v (drop (i - o) y))) 0) same
       ∙ back-cell w cells-w i after (omega arith)
+
+  -- the way back of the next row is the piece from its cell at o on
+  pub back-next : (u : List ℕ) → Piece r u → next (rule-of (r .kinds) v t) (next r u) ≡ take ((length (next r u) + 1) - v) (drop o u)
+  back-next u cells = ext-getD 0 (next b (next r u)) (take n (drop o u)) as-long same
+    where
+      b : Rule
+      b = rule-of (r .kinds) v t
+
+      n : ℕ
+      n = (length (next r u) + 1) - v
+
+      as-long : length (next b (next r u)) ≡ length (take n (drop o u))
+      as-long =
+          omega (arith, way .inside, length-next b (next r u), length-next r u, length-take n (drop o u), length-drop o u)
+
+      same : (i : ℕ) → i < length (next b (next r u)) → getD (next b (next r u)) i 0 ≡ getD (take n (drop o u)) i 0
+      same i h =
+          let inside : i < n = omega (arith, length-next b (next r u)) in
+          getD-next b (next r u) i inside
+          ∙ ap (λ j. at b (take v (drop j (next r u)))) {y = (o + i) - o} (omega arith)
+          ∙ back-cell u cells (o + i) (omega arith) (omega (arith, length-next r u))
+          ∙ sym (getD-take n (drop o u) i 0 inside ∙ getD-drop o u i 0)
 
 -- two rows of one next would agree in their middles
 pub no-way-back : No-way-back

@@ -12,18 +12,14 @@ use Rattle.std.specs.shelf.Lists.{joined}
 use Rattle.std.proofs.shelf.Lists.{length-map}
 use Rattle.std.proofs.shelf.Elements.{all-append, all-take}
 use Rattle.undone.specs.Rules.{Rule, Sound, Piece, next, copies}
-use Rattle.undone.specs.Says.{From-nothing, Among, Once, Balanced}
+use Rattle.undone.specs.Says.{From-nothing, Among, Once, Balanced, No-diamond}
 use Rattle.undone.proofs.Next.{length-next, piece-next, same-next-within}
 use Rattle.undone.proofs.Rows.{length-copies}
 use Rattle.undone.proofs.Growth.{growth}
 use Rattle.undone.proofs.Members.{same-from-one, all-one, all-two, once-two, once-one, among-from-map, once-map, among-from-joined, once-joined, length-joined-part}
 use Rattle.undone.proofs.Pigeon.{Into, length-into, length-among}
-use Rattle.undone.proofs.Words.{All-long, among-pairs, parts-from-pairs, chains, length-chains, once-chains, all-chains, long-chains, words, length-words, once-words, among-words, cells-from-words, long-words}
+use Rattle.undone.proofs.Words.{All-long, among-pairs, parts-from-pairs, chains, length-chains, once-chains, all-chains, long-chains, blocks, words, length-words, once-words, among-words, cells-from-words, long-words}
 use Rattle.undone.proofs.Preimages.{preimages, Comes, comes-front, comes-rest, among-preimages, comes-from-preimages, once-preimages, preimage}
-
--- how many blocks there are
-abbrev blocks : Rule → ℕ
-blocks r = (r .kinds) ^ (r .wide - 1)
 
 -- x, then a block
 abbrev gaps : Rule → List ℕ → List (List ℕ)
@@ -160,7 +156,7 @@ same-from-stands r sound no-orphan a b e cells-a cells-b cells-e as-long long-e 
         absurd (omega (arith, grown, few apart j, le-mul-of-pos-right (blocks r) (one-le-pow j 1 (omega arith))))
 
 -- no diamond: without an orphan no two pieces of one next row agree in their first block and in their last, but for equal ones
-pub no-diamond : (r : Rule) → Sound r → ((y : List ℕ) → From-nothing r y → ⊥) → (p s u w : List ℕ) → Piece r (p ++ (u ++ s)) → Piece r (p ++ (w ++ s)) → length p ≡ r .wide - 1 → length s ≡ r .wide - 1 → length u ≡ length w → next r (p ++ (u ++ s)) ≡ next r (p ++ (w ++ s)) → u ≡ w
+pub no-diamond : No-diamond
 no-diamond r sound no-orphan p s u w cells-u cells-w long-p long-s as-long same = append-cancel-right u w s (append-cancel-left p (u ++ s) (w ++ s) whole)
   where
     long : (v : List ℕ) → length (p ++ (v ++ s)) ≡ length p + (length v + length s)

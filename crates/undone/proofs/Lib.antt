@@ -13,3 +13,10 @@ pub mod Words
 pub mod Orphans
 pub mod Preimages
 pub mod Balance
+pub mod Undone
+pub mod Subsets
+pub mod Cycles
+pub mod Twins
+pub mod Telling
+pub mod Trichotomy
+pub mod Parts

@@ -33,6 +33,19 @@ all-two P h k u i = ⊎-elim (λ e. subst P (sym e) h) (all-one P k u) (among-co
 pub once-two : {u v : List ℕ} → (u ≡ v → ⊥) → Once (u ∷ v ∷ [])
 once-two apart = one-once (λ i. apart (same-from-one i)) once-one
 
+-- of a list whose members each have one of two properties, all have the first or some has the second
+pub all-or-some : {P Q : List ℕ → Type 0} (us : List (List ℕ)) → ((u : List ℕ) → Among u us → P u ⊎ Q u) → ((u : List ℕ) → Among u us → P u) ⊎ ((u : List ℕ) × Among u us × Q u)
+all-or-some [] each = inl (λ u i. elim i [ ])
+all-or-some {P} {Q} (v ∷ us) each = ⊎-elim (λ p. ⊎-elim (λ all. inl (λ u i. ⊎-elim (λ e. subst P (sym e) p) (all u) (among-cons-cases i))) (λ (u, i, q). inr (u, there i, q)) (all-or-some us (λ u i. each u (there i)))) (λ q. inr (v, here, q)) (each v here)
+
+-- a member that something holds of is found, or there is none
+pub find : {P : List ℕ → Type 0} → ((u : List ℕ) → Dec (P u)) → (us : List (List ℕ)) → Dec ((u : List ℕ) × Among u us × P u)
+find {P} holds us = ⊎-elim (λ never. no (λ (u, i, p). never u i p)) yes (all-or-some {P = λ u. P u → ⊥} {Q = P} us (λ u i. either (holds u)))
+  where
+    either : {A : Type 0} → Dec A → (A → ⊥) ⊎ A
+    either (yes a) = inr a
+    either (no a) = inl a
+
 -- the list without the member at a place
 abbrev pub without : {v : List ℕ} {vs : List (List ℕ)} → Among v vs → List (List ℕ)
 without (here {us = vs}) = vs

@@ -38,7 +38,8 @@ getD-kind p (x ∷ u) (suc i) h = getD-kind p u i (h .1)
 pub at-kind : (r : Rule) → 0 < r .kinds → Piece r (r .table) → (w : List ℕ) → at r w < r .kinds
 at-kind r p cells w = getD-kind p (r .table) (digits (r .kinds) 0 w) cells
 
-all-map-any : {X Y : Type 0} (P : Y → Type 0) (f : X → Y) (xs : List X) → ((x : X) → P (f x)) → All P (map f xs)
+-- what holds of all that a function gives holds of each member of a map
+pub all-map-any : {X Y : Type 0} (P : Y → Type 0) (f : X → Y) (xs : List X) → ((x : X) → P (f x)) → All P (map f xs)
 all-map-any P f [] h = tt
 all-map-any P f (x ∷ xs) h = (h x, all-map-any P f xs h)
 

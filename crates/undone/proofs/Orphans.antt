@@ -2,14 +2,14 @@
 use mathlib.Core.Path.{_≡_, refl, sym, ap, _∙_}
 use mathlib.Core.List.{List, [], _∷_, _++_, append-cancel-left, append-cancel-right}
 use Prim.Native.Nat.{ℕ, zero, suc, _+_, _-_, _*_, _^_, _<_}
-use native.Mathlib.Nat.{suc-mul, mul-one}
+use native.Mathlib.Nat.{suc-mul}
 use native.Mathlib.Omega.{arith}
 use lib.ListN.{length, take, drop, length-take, length-drop, length-append}
 use Rattle.std.proofs.shelf.Elements.{all-append, all-take, all-drop}
-use Rattle.undone.specs.Rules.{Rule, Sound, Piece, next, copies, Row, part}
+use Rattle.undone.specs.Rules.{Rule, Sound, Piece, next, Row, part}
 use Rattle.undone.specs.Says.{From-nothing, Same-next, Among, Twins-of-orphans, No-orphan}
 use Rattle.undone.proofs.Next.{next-split, same-next-within}
-use Rattle.undone.proofs.Rows.{length-copies, cells-copies}
+use Rattle.undone.proofs.Rows.{zeros, length-zeros, cells-zeros}
 use Rattle.undone.proofs.Growth.{growth, pow-mul}
 use Rattle.undone.proofs.Members.{without, length-without, among-without}
 use Rattle.undone.proofs.Pigeon.{Into, Clash, pigeonhole}
@@ -29,19 +29,12 @@ next-without r sound x orphan m (suc j) u cells long =
     let ends = next-without r sound x orphan m j (drop (length x) u) (all-drop (λ c. c < r .kinds) (length x) u cells) rest in
     rw (next-split r (omega arith) (length x) u) (among-pairs fronts ends)
 
--- n cells of kind 0
-abbrev zeros : ℕ → List ℕ
-zeros n = copies n (0 ∷ [])
-
 -- the piece u between two blocks of 0, and a row of 0 around it
 abbrev between : ℕ → List ℕ → List ℕ
 between q u = zeros q ++ (u ++ zeros q)
 
 abbrev row-around : ℕ → List ℕ → Row
 row-around q u = record { left = 0 ∷ []; mid = between q u; right = 0 ∷ [] }
-
-length-zeros : (n : ℕ) → length (zeros n) ≡ n
-length-zeros n = length-copies n (0 ∷ []) ∙ mul-one n
 
 length-between : (q : ℕ) (u : List ℕ) → length (between q u) ≡ length u + (q + q)
 length-between q u = length-append (zeros q) (u ++ zeros q) ∙ omega (arith, length-append u (zeros q), length-zeros q)
@@ -51,9 +44,6 @@ abbrev Gives : Rule → List ℕ → List ℕ → Type 0
 Gives r u v = v ≡ next r (between (r .wide - 1) u)
 
 module _ (r : Rule) (sound : Sound r) where
-  cells-zeros : (n : ℕ) → Piece r (zeros n)
-  cells-zeros n = cells-copies (r .kinds) n (0 ∷ []) (omega arith, tt)
-
   cells-around : (l : List ℕ) → Piece r l → (u : List ℕ) → Piece r u → Piece r (l ++ (u ++ l))
   cells-around l cells-l u cells = all-append (λ c. c < r .kinds) l (u ++ l) cells-l (all-append (λ c. c < r .kinds) u l cells cells-l)
 
@@ -70,8 +60,11 @@ module _ (r : Rule) (sound : Sound r) where
       q : ℕ
       q = r .wide - 1
 
+      some : 0 < r .kinds
+      some = omega arith
+
       cells : (n : ℕ) (v : List ℕ) → Piece r v → Piece r (part (row-around q v) n)
-      cells n v h = cells-around (zeros n) (cells-zeros n) (between q v) (cells-around (zeros q) (cells-zeros q) v h)
+      cells n v h = cells-around (zeros n) (cells-zeros some n) (between q v) (cells-around (zeros q) (cells-zeros some q) v h)
 
   twins-from-clash : (n : ℕ) (vs : List (List ℕ)) → Clash (Gives r) (words (r .kinds) n) vs → (a : Row) × (b : Row) × Same-next r a b × (a .left ≡ b .left) × (a .right ≡ b .right)
   twins-from-clash n vs c =
@@ -108,7 +101,7 @@ twins-of-orphans r x sound orphan =
 
     into : Into (Gives r) (words k (j * length x)) others
     into u i =
-        let cells = cells-around r sound (zeros q) (cells-zeros r sound q) u (cells-from-words k (j * length x) u i) in
+        let cells = cells-around r sound (zeros q) (cells-zeros (omega arith) q) u (cells-from-words k (j * length x) u i) in
         let long = length-between q u ∙ ap (λ l. l + (q + q)) (long-words k (j * length x) u i) in
         (next r (between q u), next-without r sound x orphan m j (between q u) cells long, refl)
 

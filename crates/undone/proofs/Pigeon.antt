@@ -1,14 +1,16 @@
--- The pigeonhole principle on lists of pieces, and on numbers.
+-- The pigeonhole principle on lists of pieces, on numbers, and on pieces of one length.
 use mathlib.Core.Path.{_≡_, refl, sym, ap, _∙_, subst}
 use mathlib.Core.Logic.{_⊎_, inl, inr, ⊎-elim}
 use mathlib.Core.List.{List, [], _∷_, List-discrete}
-use Prim.Native.Nat.{ℕ, zero, suc, _<_, _≤_}
+use Prim.Native.Nat.{ℕ, zero, suc, _^_, _<_, _≤_}
 use native.Mathlib.Nat.{eq-or-lt-of-le}
 use native.Mathlib.Decide.{ℕ-discrete}
 use native.Mathlib.Omega.{arith}
 use lib.ListN.{length}
 use Rattle.std.proofs.shelf.Tests.{cases-order}
+use Rattle.undone.specs.Rules.{Cells, digits}
 use Rattle.undone.specs.Says.{Among, here, there, Once, no-once, one-once}
+use Rattle.undone.proofs.Digits.{digits-lt, same-from-digits}
 use Rattle.undone.proofs.Members.{among-cons-cases, without, length-without, among-without, among-from-without}
 
 -- every member of us is related to some member of vs
@@ -94,3 +96,14 @@ pigeonhole-ℕ b n g fewer below =
 
     into : Into Gives (singles b) (singles n)
     into u m = let (i, is-i, l) = cell-from-singles b m in (g i ∷ [], among-singles n (g i) (below i l), (i, is-i, l, refl))
+
+-- of more places than there are words of n cells two have the same
+pub pigeonhole-words : (b k n : ℕ) (g : ℕ → List ℕ) → k ^ n < b → ((i : ℕ) → i < b → Cells k (g i) × (length (g i) ≡ n)) → (i : ℕ) × (j : ℕ) × (i < j) × (j < b) × (g i ≡ g j)
+pigeonhole-words b k n g fewer words =
+    let (i, j, before, inside, same) = pigeonhole-ℕ b (k ^ n) (λ i. digits k 0 (g i)) fewer below in
+    let (cells-i, long-i) = words i (omega arith) in
+    let (cells-j, long-j) = words j inside in
+    (i, j, before, inside, same-from-digits k (g i) (g j) cells-i cells-j (long-i ∙ sym long-j) same)
+  where
+    below : (i : ℕ) → i < b → digits k 0 (g i) < k ^ n
+    below i h = let (cells, long) = words i h in rw long at (digits-lt k (g i) cells)

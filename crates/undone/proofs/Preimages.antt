@@ -1,16 +1,16 @@
 -- Preimages: the pieces that a piece comes from, as a list, and whether there is one.
-use mathlib.Core.Path.{_≡_, refl, ap, _∙_}
+use mathlib.Core.Path.{_≡_, refl, sym, ap, ap₂, _∙_}
 use mathlib.Core.Logic.{_⊎_, inl, inr, ⊎-elim}
 use mathlib.Core.List.{List, [], _∷_, _++_, List-discrete}
 use Prim.Native.Nat.{ℕ, _+_, _-_, _<_, _≤_}
 use native.Mathlib.Decide.{ℕ-discrete}
 use native.Mathlib.Omega.{arith}
-use lib.ListN.{length, take, drop, length-take, length-drop, length-append}
+use lib.ListN.{length, take, drop, length-take, length-drop, length-append, take-append-drop}
 use lib.Seq.{take-at, drop-at}
-use Rattle.std.proofs.shelf.Elements.{all-take, all-drop}
+use Rattle.std.proofs.shelf.Elements.{all-append, all-take, all-drop}
 use Rattle.undone.specs.Rules.{Rule, Piece, next}
 use Rattle.undone.specs.Says.{From-nothing, Among, here, Once}
-use Rattle.undone.proofs.Next.{next-take, next-drop}
+use Rattle.undone.proofs.Next.{next-take, next-drop, next-append}
 use Rattle.undone.proofs.Members.{chosen, among-chosen, among-from-chosen, once-chosen}
 use Rattle.undone.proofs.Words.{words, once-words, among-words, cells-from-words, long-words}
 
@@ -32,6 +32,26 @@ comes-front r some x y u (cells, (long, from)) = (all-take (λ c. c < r .kinds) 
 -- the rest of x comes from the rest of u
 pub comes-rest : (r : Rule) → 1 ≤ r .wide → (x y u : List ℕ) → Comes r (x ++ y) u → Comes r y (drop (length x) u)
 comes-rest r some x y u (cells, (long, from)) = (all-drop (λ c. c < r .kinds) (length x) u cells, (omega (arith, length-drop (length x) u, length-append x y), next-drop r some (length x) u ∙ ap (drop (length x)) from ∙ drop-at x y (length x) refl))
+
+-- two preimages make one where the first ends with the block that the second begins with
+pub comes-glue : (r : Rule) → 1 ≤ r .wide → (x y u w : List ℕ) → Comes r x u → Comes r y w → drop (length x) u ≡ take (r .wide - 1) w → Comes r (x ++ y) (take (length x) u ++ w)
+comes-glue r some x y u w (cells-u, (long-u, from-u)) (cells-w, (long-w, from-w)) meet = (cells, (long, from))
+  where
+    q : ℕ
+    q = r .wide - 1
+
+    cells : Piece r (take (length x) u ++ w)
+    cells = all-append (λ c. c < r .kinds) (take (length x) u) w (all-take (λ c. c < r .kinds) (length x) u cells-u) cells-w
+
+    long : length (take (length x) u ++ w) ≡ length (x ++ y) + q
+    long = length-append (take (length x) u) w ∙ omega (arith, length-take (length x) u, length-append x y)
+
+    from : next r (take (length x) u ++ w) ≡ x ++ y
+    from =
+        ap (λ v. next r (take (length x) u ++ v)) (sym (take-append-drop q w))
+        ∙ next-append r some (take (length x) u) (take q w) (drop q w) (omega (arith, length-take q w))
+        ∙ ap₂ (λ a b. next r a ++ next r b) (ap (λ v. take (length x) u ++ v) (sym meet) ∙ take-append-drop (length x) u) (take-append-drop q w)
+        ∙ ap₂ _++_ from-u from-w
 
 pub among-preimages : (r : Rule) (x u : List ℕ) → Comes r x u → Among u (preimages r x)
 among-preimages r x u (cells, (long, from)) =

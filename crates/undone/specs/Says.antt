@@ -63,10 +63,41 @@ pub data Once : List (List ℕ) → Type 0 where
 abbrev pub Balanced : Type 0
 Balanced = (r : Rule) (x : List ℕ) → Sound r → ((y : List ℕ) → From-nothing r y → ⊥) → Piece r x → (us : List (List ℕ)) × Once us × (length us ≡ (r .kinds) ^ (r .wide - 1)) × ((u : List ℕ) → Among u us ↔ (Piece r u × ((length u ≡ length x + (r .wide - 1)) × (next r u ≡ x))))
 
+-- no diamond: without an orphan no two different pieces of one next row agree in their first block and in their last
+abbrev pub No-diamond : Type 0
+No-diamond = (r : Rule) → Sound r → ((y : List ℕ) → From-nothing r y → ⊥) → (p s u w : List ℕ) → Piece r (p ++ (u ++ s)) → Piece r (p ++ (w ++ s)) → length p ≡ r .wide - 1 → length s ≡ r .wide - 1 → length u ≡ length w → next r (p ++ (u ++ s)) ≡ next r (p ++ (w ++ s)) → u ≡ w
+
+-- a rule of the first kind has an orphan
+abbrev pub Has-orphan : Rule → Type 0
+Has-orphan r = (x : List ℕ) × From-nothing r x
+
+-- of the second kind, two rows of one next and no orphan
+abbrev pub Has-twins : Rule → Type 0
+Has-twins r = (a : Row) × (b : Row) × Same-next r a b × ((x : List ℕ) → From-nothing r x → ⊥)
+
+-- of the third kind, a way back
+abbrev pub Has-way-back : Rule → Type 0
+Has-way-back r = (v : ℕ) × (o : ℕ) × (t : List ℕ) × Back r v o t
+
 -- a rule has an orphan, or two rows of one next and no orphan, or a way back
 abbrev pub One-of-three : Type 0
-One-of-three = (r : Rule) → Sound r → ((x : List ℕ) × From-nothing r x) ⊎ (((a : Row) × (b : Row) × Same-next r a b × ((x : List ℕ) → From-nothing r x → ⊥)) ⊎ ((v : ℕ) × (o : ℕ) × (t : List ℕ) × Back r v o t))
+One-of-three = (r : Rule) → Sound r → Has-orphan r ⊎ (Has-twins r ⊎ Has-way-back r)
+
+-- a rule is of one of the three kinds, and of no two of them
+abbrev pub Exactly-one : Type 0
+Exactly-one = (r : Rule) → Sound r → (Has-orphan r ⊎ (Has-twins r ⊎ Has-way-back r)) × ((Has-orphan r × Has-twins r → ⊥) × ((Has-orphan r × Has-way-back r → ⊥) × (Has-twins r × Has-way-back r → ⊥)))
 
 -- what undoes a rule is undone by it
 abbrev pub Both-ways : Type 0
 Both-ways = (r : Rule) (v o : ℕ) (t : List ℕ) → Sound r → Back r v o t → (x : List ℕ) → Piece r x → length x ≡ v + (r .wide - 1) → next r (next (rule-of (r .kinds) v t) x) ≡ getD x o 0 ∷ []
+
+-- the theorems about rules
+pub record Parts : Type 0 where
+  pub no-way-back : No-way-back
+  pub no-orphan : No-orphan
+  pub twins-of-orphans : Twins-of-orphans
+  pub balanced : Balanced
+  pub no-diamond : No-diamond
+  pub one-of-three : One-of-three
+  pub exactly-one : Exactly-one
+  pub both-ways : Both-ways

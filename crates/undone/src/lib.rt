@@ -5,3 +5,4 @@ pub mod row;
 pub mod rule;
 #[cfg(test)]
 mod tests;
+pub mod theory;

@@ -2,14 +2,14 @@ use mathlib.Core.Path.{refl}
 use native.Mathlib.Omega.{arith}
 use Rattle.std.proofs.shelf.Results.{err-from-errBy}
 use Rattle.undone.proofs.Tables.{formed-local}
-use Rattle.ring.proofs.Seconds.{comes-back}
+use Rattle.ring.proofs.Seconds.{round-trips}
 use Rattle.ring.proofs.Turns.{turned-more, turned-piece, ring-piece, ran-even, ran-odd}
 use Rattle.ring.proofs.steps.Needs as need
 
 pub returns-in-Break-check-ring : need.returns-in-Break-check-ring
 returns-in-Break-check-ring c =
     let p = err-from-errBy (c .from-residual .result) (c .from-residual .ensures .1) in
-    rw (p .1, p .2) (record { says = (refl, refl, c .in-Break-check-ring .ensures tt); comes-back = comes-back })
+    rw (p .1, p .2) (record { says = (refl, refl, c .in-Break-check-ring .ensures tt); round-trips = round-trips })
 
 pub turn-requires : need.turn-requires
 turn-requires c κs =
@@ -25,7 +25,7 @@ pub loop-two-again : need.loop-two-again
 loop-two-again c = turned-more (c .loop-two .inv) (c .turn .ensures) (c .turn-in-loop-two .ensures)
 
 pub returns-then-seconds-eq0 : need.returns-then-seconds-eq0
-returns-then-seconds-eq0 c = record { says = ran-even (c .args .seconds) (c .loop-two .inv) (omega arith) (omega arith); comes-back = comes-back }
+returns-then-seconds-eq0 c = record { says = ran-even (c .args .seconds) (c .loop-two .inv) (omega arith) (omega arith); round-trips = round-trips }
 
 pub turn-requires-2 : need.turn-requires-2
 turn-requires-2 c κs =
@@ -33,4 +33,4 @@ turn-requires-2 c κs =
     record { cells = turned-piece (formed-local (c .args .rule)) (c .loop-two .inv) (ok .0); some = omega arith; long = omega arith }
 
 pub returns : need.returns
-returns c = record { says = ran-odd (c .args .seconds) (c .loop-two .inv) (c .turn-2 .ensures) (omega arith) (omega arith); comes-back = comes-back }
+returns c = record { says = ran-odd (c .args .seconds) (c .loop-two .inv) (c .turn-2 .ensures) (omega arith) (omega arith); round-trips = round-trips }
