@@ -2,9 +2,11 @@
 use mathlib.Core.Path.{_≡_, refl, sym, ap, _∙_}
 use mathlib.Core.Bool.{true}
 use mathlib.Core.List.{List}
+use mathlib.Core.Logic.{⊎-elim}
 use Prim.Native.Nat.{ℕ, suc, _-_, _*_, _^_, _≤_, _<_}
-use native.Mathlib.Nat.{pow-suc}
+use native.Mathlib.Nat.{pow-suc, sub-zero}
 use native.Mathlib.Omega.{arith}
+use lib.ListN.{length}
 use Rattle.std.specs.Results.{Cases, isOk}
 use Rattle.std.specs.declared.result.Result.{Result}
 use Rattle.std.specs.declared.result.Result.the-variants.{Ok, Err}
@@ -12,7 +14,7 @@ use Rattle.std.proofs.shelf.Elements.{all-getD, all-from-getD}
 use Rattle.undone.specs.declared.local.LocalRule.{LocalRule}
 use Rattle.undone.specs.declared.rule.NoRule.{NoRule}
 use Rattle.undone.specs.declared.rule.NoRule.the-variants.{FewKinds, Narrow, Large, Length, NoKind}
-use Rattle.undone.specs.Checks.{BadTable, Unfit}
+use Rattle.undone.specs.Checks.{BadSize, BadTable, Unfit}
 use Rattle.undone.specs.Local.{the-rule}
 use Rattle.undone.specs.Rules.{Rule, rule-of, Cells, Stray, Formed, Sound}
 
@@ -39,25 +41,27 @@ pub ok-from-cases : {X Y : Type 0} (r : Result X Y) (P : X → Type 0) (Q : Y �
 ok-from-cases (Ok x) P Q h never = refl
 ok-from-cases (Err y) P Q h never = absurd (never y h)
 
--- a bad table does not fit
-pub unfit-from-bad : (least size most k m n : ℕ) (t : List ℕ) → 2 ≤ k → least ≤ m → size ≤ most → n ≡ k ^ m → (e : NoRule) → BadTable n k t e → Unfit least size most k m t e
-unfit-from-bad least size most k m n t a b c is FewKinds h = absurd h
-unfit-from-bad least size most k m n t a b c is Narrow h = absurd h
-unfit-from-bad least size most k m n t a b c is Large h = absurd h
-unfit-from-bad least size most k m n t a b c is (Length w f) h = (a, b, c, rw is at h)
-unfit-from-bad least size most k m n t a b c is (NoKind p) h = (a, b, c, rw is at h)
+-- a size that is bad is not that of a rule or of a way back
+good-size : {least most k m : ℕ} (e : NoRule) → 2 ≤ k → least ≤ m → k ^ (m - (least - 1)) ≤ most → BadSize least most k m e → ⊥
+good-size FewKinds kinds wide small bad = omega arith
+good-size Narrow kinds wide small bad = omega arith
+good-size Large kinds wide small bad = omega arith
+good-size (Length w f) kinds wide small bad = bad
+good-size (NoKind p) kinds wide small bad = bad
 
--- what does not fit is no rule
-pub unsound-from-unfit : (k m : ℕ) (t : List ℕ) (e : NoRule) → Unfit 2 (k ^ (m - 1)) 16 k m t e → Sound (rule-of k m t) → ⊥
-unsound-from-unfit k m t FewKinds h s = omega arith
-unsound-from-unfit k m t Narrow h s = omega arith
-unsound-from-unfit k m t Large h s = omega arith
-unsound-from-unfit k m t (Length w f) h s = h .3 .2 (s .full)
-unsound-from-unfit k m t (NoKind p) h s = no-stray t p (s .cells) (h .3 .1)
+-- nor is a table that is bad
+good-table : {n : ℕ} (k : ℕ) (t : List ℕ) (e : NoRule) → length t ≡ n → Cells k t → BadTable n k t e → ⊥
+good-table k t FewKinds full cells bad = bad
+good-table k t Narrow full cells bad = bad
+good-table k t Large full cells bad = bad
+good-table k t (Length w f) full cells bad = bad .2 full
+good-table k t (NoKind p) full cells bad = no-stray t p cells (bad .1)
 
-pub unformed-from-unfit : (k m : ℕ) (t : List ℕ) (e : NoRule) → Unfit 1 (k ^ m) 262144 k m t e → Formed (rule-of k m t) → k ^ m ≤ 262144 → ⊥
-unformed-from-unfit k m t FewKinds h f few = omega arith
-unformed-from-unfit k m t Narrow h f few = omega arith
-unformed-from-unfit k m t Large h f few = omega arith
-unformed-from-unfit k m t (Length w found) h f few = h .3 .2 (f .full)
-unformed-from-unfit k m t (NoKind p) h f few = no-stray t p (f .cells) (h .3 .1)
+-- so what does not fit is no rule, and no way back that is small enough
+pub unsound-from-unfit : (k m : ℕ) (t : List ℕ) (e : NoRule) → Unfit 2 16 k m t e → Sound (rule-of k m t) → ⊥
+unsound-from-unfit k m t e unfit s =
+    ⊎-elim (good-size e (s .kinds) (s .wide) (s .small)) (λ bad. good-table k t e (s .full) (s .cells) (bad .1)) unfit
+
+pub unformed-from-unfit : (k m : ℕ) (t : List ℕ) (e : NoRule) → Unfit 1 262144 k m t e → Formed (rule-of k m t) → k ^ m ≤ 262144 → ⊥
+unformed-from-unfit k m t e unfit f few =
+    ⊎-elim (good-size {least = 1} {most = 262144} e (f .kinds) (f .wide) (rw sub-zero few)) (λ bad. good-table k t e (f .full) (f .cells) (bad .1)) unfit
