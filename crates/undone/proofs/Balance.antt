@@ -11,14 +11,14 @@ use lib.Pow.{pow-add}
 use Rattle.std.specs.shelf.Lists.{joined}
 use Rattle.std.proofs.shelf.Lists.{length-map}
 use Rattle.std.proofs.shelf.Elements.{all-append, all-take}
-use Rattle.undone.specs.Rules.{Rule, Sound, Piece, next, copies}
+use Rattle.undone.specs.Rules.{Rule, Sound, Piece, blocks-of, next, copies}
 use Rattle.undone.specs.Says.{From-nothing, Among, Once, Balanced, No-diamond}
 use Rattle.undone.proofs.Next.{length-next, piece-next, same-next-within}
 use Rattle.undone.proofs.Rows.{length-copies}
 use Rattle.undone.proofs.Growth.{growth}
 use Rattle.undone.proofs.Members.{same-from-one, all-one, all-two, once-two, once-one, among-from-map, once-map, among-from-joined, once-joined, length-joined-part}
 use Rattle.undone.proofs.Pigeon.{Into, length-into, length-among}
-use Rattle.undone.proofs.Words.{All-long, among-pairs, parts-from-pairs, chains, length-chains, once-chains, all-chains, long-chains, blocks, words, length-words, once-words, among-words, cells-from-words, long-words}
+use Rattle.undone.proofs.Words.{All-long, among-pairs, parts-from-pairs, chains, length-chains, once-chains, all-chains, long-chains, words, length-words, once-words, among-words, cells-from-words, long-words}
 use Rattle.undone.proofs.Preimages.{preimages, Comes, comes-front, comes-rest, among-preimages, comes-from-preimages, once-preimages, preimage}
 
 -- x, then a block
@@ -51,7 +51,7 @@ cells-gaps r x cells j = all-chains (Piece r) (all-append (λ c. c < r .kinds)) 
         subst (Piece r) (sym e) (all-append (λ c. c < r .kinds) x z cells (cells-from-words (r .kinds) (r .wide - 1) z j))
 
 -- the pieces that the words of n cells come from are different words, of a block more
-length-joined-preimages : (r : Rule) (n : ℕ) → length (joined (preimages r) (words (r .kinds) n)) ≤ (r .kinds) ^ n * blocks r
+length-joined-preimages : (r : Rule) (n : ℕ) → length (joined (preimages r) (words (r .kinds) n)) ≤ (r .kinds) ^ n * blocks-of r
 length-joined-preimages r n = omega (arith, length-among (joined (preimages r) xs) (words (r .kinds) (n + (r .wide - 1))) once among, length-words (r .kinds) (n + (r .wide - 1)), pow-add (r .kinds) n (r .wide - 1))
   where
     xs : List (List ℕ)
@@ -68,7 +68,7 @@ length-joined-preimages r n = omega (arith, length-among (joined (preimages r) x
 
 module _ (r : Rule) (sound : Sound r) (no-orphan : (y : List ℕ) → From-nothing r y → ⊥) where
   -- the words x, a block, x, a block, and so on to x, are no more than the pieces that they come from
-  preimages-pow : (x : List ℕ) → Piece r x → (j : ℕ) → blocks r ^ j ≤ length (preimages r x) ^ j * length (preimages r x)
+  preimages-pow : (x : List ℕ) → Piece r x → (j : ℕ) → blocks-of r ^ j ≤ length (preimages r x) ^ j * length (preimages r x)
   preimages-pow x cells j = omega (arith, length-into (λ y u. next r u ≡ y) ys us once into (λ y w u e f. sym e ∙ f), many, length-chains j (preimages r x) (preimages r x))
     where
       ys : List (List ℕ)
@@ -85,20 +85,20 @@ module _ (r : Rule) (sound : Sound r) (no-orphan : (y : List ℕ) → From-nothi
           let (u, comes) = preimage r no-orphan y (cells-gaps r x cells j y i) in
           (u, comes-apart r (omega arith) x j y u i comes, comes .1 .1)
 
-      many : length ys ≡ blocks r ^ j * 1
+      many : length ys ≡ blocks-of r ^ j * 1
       many = length-chains j (gaps r x) (x ∷ []) ∙ ap (λ l. l ^ j * 1) (length-map (words (r .kinds) (r .wide - 1)) (λ z. x ++ z) ∙ length-words (r .kinds) (r .wide - 1))
 
-  preimages-ge : (x : List ℕ) → Piece r x → blocks r ≤ length (preimages r x)
+  preimages-ge : (x : List ℕ) → Piece r x → blocks-of r ≤ length (preimages r x)
   preimages-ge x cells =
       let c = length (preimages r x) in
-      let enough : c < blocks r → ⊥ = λ less. let (j, grown) = growth c (blocks r) c less in omega (arith, grown, preimages-pow x cells j) in
+      let enough : c < blocks-of r → ⊥ = λ less. let (j, grown) = growth c (blocks-of r) c less in omega (arith, grown, preimages-pow x cells j) in
       omega arith
 
-  length-preimages : (x : List ℕ) → Piece r x → length (preimages r x) ≡ blocks r
+  length-preimages : (x : List ℕ) → Piece r x → length (preimages r x) ≡ blocks-of r
   length-preimages x cells =
       let k = r .kinds in
-      let part = length-joined-part (preimages r) (blocks r) (words k (length x)) (among-words k (length x) x cells refl) (λ y i. preimages-ge y (cells-from-words k (length x) y i)) in
-      let whole : length (words k (length x)) * blocks r ≡ k ^ length x * blocks r = ap (λ l. l * blocks r) (length-words k (length x)) in
+      let part = length-joined-part (preimages r) (blocks-of r) (words k (length x)) (among-words k (length x) x cells refl) (λ y i. preimages-ge y (cells-from-words k (length x) y i)) in
+      let whole : length (words k (length x)) * blocks-of r ≡ k ^ length x * blocks-of r = ap (λ l. l * blocks-of r) (length-words k (length x)) in
       omega (arith, preimages-ge x cells, part, whole, length-joined-preimages r (length x))
 
 -- without an orphan every piece has as many preimages as there are blocks
@@ -144,7 +144,7 @@ same-from-stands r sound no-orphan a b e cells-a cells-b cells-e as-long long-e 
     comes : (j : ℕ) (z : List ℕ) → Among z (sides j) → Comes r (next r (one j)) z
     comes j z i = (cells j z i, (omega (arith, long j z i, long-one j, length-next r (one j)), next-sides r a b e stands j [] z i))
 
-    few : (a ≡ b → ⊥) → (j : ℕ) → 2 ^ j ≤ blocks r
+    few : (a ≡ b → ⊥) → (j : ℕ) → 2 ^ j ≤ blocks-of r
     few apart j =
         let fits = length-among (sides j) (preimages r (next r (one j))) (once-chains (length a) j (all-two (λ c. length c ≡ length a) refl (sym as-long)) (once-two apart) once-one) (λ z i. among-preimages r (next r (one j)) z (comes j z i)) in
         omega (arith, fits, length-chains j (a ∷ b ∷ []) (e ∷ []), length-preimages r sound no-orphan (next r (one j)) (piece-next r (omega arith) (sound .cells) (one j)))
@@ -152,8 +152,8 @@ same-from-stands r sound no-orphan a b e cells-a cells-b cells-e as-long long-e 
     same : Dec (a ≡ b) → a ≡ b
     same (yes is) = is
     same (no apart) =
-        let (j, grown) = growth 1 2 (blocks r) (omega arith) in
-        absurd (omega (arith, grown, few apart j, le-mul-of-pos-right (blocks r) (one-le-pow j 1 (omega arith))))
+        let (j, grown) = growth 1 2 (blocks-of r) (omega arith) in
+        absurd (omega (arith, grown, few apart j, le-mul-of-pos-right (blocks-of r) (one-le-pow j 1 (omega arith))))
 
 -- no diamond: without an orphan no two pieces of one next row agree in their first block and in their last, but for equal ones
 pub no-diamond : No-diamond

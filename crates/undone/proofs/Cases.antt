@@ -1,8 +1,9 @@
--- Worked rules: next rows of pieces, two rows of one next, and ways back on one piece.
+-- Worked rules: next rows of pieces, two rows of one next, an orphan, and ways back on one piece.
 use mathlib.Core.Path.{_≡_, refl}
 use mathlib.Core.List.{List, [], _∷_}
 use Prim.Native.Nat.{ℕ}
 use Rattle.undone.specs.Rules.{Rule, rule-of, digits, next, Row, part}
+use Rattle.undone.specs.Subsets.{reached}
 
 -- a shift: the second of two cells
 abbrev shift : Rule
@@ -37,6 +38,9 @@ both-next = refl
 
 both-gap : next both (1 ∷ 1 ∷ 0 ∷ 1 ∷ []) ≡ 1 ∷ 0 ∷ 0 ∷ []
 both-gap = refl
+
+both-orphan : reached both (1 ∷ 0 ∷ 1 ∷ []) ≡ 0
+both-orphan = refl
 
 -- four kinds as two bits: the upper stays, the lower is turned where the next cell's upper is 1
 abbrev turn : Rule

@@ -1,4 +1,4 @@
--- What the functions' proofs cite, then the theory of rules in the order of its argument.
+-- What the functions' proofs cite, then the theory of rules in the order of its argument, then what the searches cite.
 pub mod Digits
 pub mod Tables
 pub mod Next
@@ -14,9 +14,24 @@ pub mod Orphans
 pub mod Preimages
 pub mod Balance
 pub mod Undone
-pub mod Subsets
+pub mod Endings
 pub mod Cycles
-pub mod Twins
+pub mod Pieces
+pub mod Repeats
 pub mod Telling
 pub mod Trichotomy
 pub mod Parts
+pub mod BitSets
+pub mod Follow
+pub mod Reached
+pub mod Searching
+pub mod Walks
+pub mod Edges
+pub mod Sweeps
+pub mod Paths
+pub mod Along
+pub mod Widths
+pub mod Reading
+pub mod Prefixing
+pub mod Filling
+pub mod Decisions

@@ -69,7 +69,8 @@ next-drop r h i u = ext-getD 0 (next r (drop i u)) (drop i (next r u)) as-long s
         ∙ sym (getD-next r u (i + j) (omega (arith, length-next r (drop i u), length-drop i u)))
         ∙ sym (getD-drop i (next r u) j 0)
 
-take-drop-take : (m i j : ℕ) (u : List ℕ) → j + m ≤ i → take m (drop j (take i u)) ≡ take m (drop j u)
+-- a part of a front
+pub take-drop-take : (m i j : ℕ) (u : List ℕ) → j + m ≤ i → take m (drop j (take i u)) ≡ take m (drop j u)
 take-drop-take m i j u h =
     ap (λ n. take m (drop j (take n u))) {y = j + (i - j)} (omega arith) ∙ ap (take m) (drop-take j (i - j) u) ∙ take-take m (i - j) (drop j u) (omega arith)
 

@@ -1,5 +1,5 @@
 -- Tables of rules: how long they are, and why some are no rules.
-use mathlib.Core.Path.{_≡_, refl, sym, ap, _∙_}
+use mathlib.Core.Path.{_≡_, refl, sym, ap, subst, _∙_}
 use mathlib.Core.Bool.{true}
 use mathlib.Core.List.{List}
 use mathlib.Core.Logic.{⊎-elim}
@@ -31,6 +31,10 @@ formed-from-sound s = record { kinds = s .kinds; wide = omega arith; full = s .f
 pub formed-local : (l : LocalRule) → Formed (the-rule l)
 formed-local l =
     record { kinds = l .two; wide = l .some; full = l .full; cells = all-from-getD (λ c. c < l .kinds) (l .table .now) 0 (l .each) }
+
+-- a checked table that is a rule
+pub sound-local : (l : LocalRule) {k m : ℕ} {t : List ℕ} → l .kinds ≡ k → l .wide ≡ m → l .table .now ≡ t → Sound (rule-of k m t) → Sound (the-rule l)
+sound-local l kinds wide table sound = subst Sound (λ i. rule-of (sym kinds i) (sym wide i) (sym table i)) sound
 
 -- cells of the kinds have no stray
 pub no-stray : {k : ℕ} (u : List ℕ) (p : ℕ) → Cells k u → Stray k u p → ⊥

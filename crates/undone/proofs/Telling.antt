@@ -9,16 +9,11 @@ use lib.ListN.{length, getD}
 use Rattle.std.specs.Iters.{counting}
 use Rattle.std.proofs.shelf.Counted.{length-map-counting, getD-map-counting}
 use Rattle.undone.specs.Rules.{Rule, Sound, Piece, digits, next}
-use Rattle.undone.specs.Says.{Back, Among}
+use Rattle.undone.specs.Says.{One-next, Tells, Back, Among}
 use Rattle.undone.proofs.Digits.{digits-lt, same-from-digits}
 use Rattle.undone.proofs.Next.{getD-kind, piece-next, length-next-block, all-map-any}
 use Rattle.undone.proofs.Members.{all-or-some, find}
 use Rattle.undone.proofs.Words.{words, among-words, cells-from-words, long-words}
-use Rattle.undone.proofs.Twins.{One-next}
-
--- any two pieces of v windows and one next row agree at o
-abbrev pub Tells : Rule → ℕ → ℕ → Type 0
-Tells r v o = (u w : List ℕ) → One-next r u w → length u ≡ v + (r .wide - 1) → getD u o 0 ≡ getD w o 0
 
 -- two pieces of v windows and one next row that differ at o
 abbrev pub Differ : Rule → ℕ → ℕ → Type 0

@@ -5,8 +5,8 @@ use native.Mathlib.Omega.{arith}
 use Rattle.undone.specs.Says.{One-of-three, Exactly-one}
 use Rattle.undone.proofs.Back.{no-way-back}
 use Rattle.undone.proofs.Orphans.{no-orphan}
-use Rattle.undone.proofs.Subsets.{orphan-or-none}
-use Rattle.undone.proofs.Twins.{pairs-of-blocks, twins-of-pieces}
+use Rattle.undone.proofs.Endings.{orphan-or-none}
+use Rattle.undone.proofs.Repeats.{pairs-of-blocks, twins-of-pieces}
 use Rattle.undone.proofs.Telling.{tells-or-differ, back-from-tells}
 
 -- a cell with as many others on either side as there are pairs of blocks is told, or two pieces that differ there give twins

@@ -80,10 +80,6 @@ words k n = chains n (singles k) ([] ∷ [])
 pub length-words : (k n : ℕ) → length (words k n) ≡ k ^ n
 length-words k n = length-chains n (singles k) ([] ∷ []) ∙ mul-one (length (singles k) ^ n) ∙ ap (λ s. s ^ n) (length-singles k)
 
--- how many blocks there are
-abbrev pub blocks : Rule → ℕ
-blocks r = (r .kinds) ^ (r .wide - 1)
-
 long-singles : (k : ℕ) → All-long 1 (singles k)
 long-singles k u i = let (c, e, l) = cell-from-singles k i in ap length e
 

@@ -1,11 +1,12 @@
 -- A loop that writes a row to lent cells, from left to right.
-use mathlib.Core.Path.{_≡_, refl, sym, ap, subst, _∙_}
-use mathlib.Core.List.{List, [], _∷_, _++_}
-use Prim.Native.Nat.{ℕ, _+_, _≤_, _<_}
+use mathlib.Core.Path.{_≡_, refl, sym, ap, ap₂, subst, _∙_}
+use mathlib.Core.List.{List, [], _∷_, _++_, append-nil}
+use Prim.Native.Nat.{ℕ, _+_, _-_, _≤_, _<_}
 use native.Mathlib.Omega.{arith}
-use lib.ListN.{length, take, drop, getD, set}
-use lib.Seq.{drop-drop, drop-set-lt, take-all}
-use Rattle.std.proofs.shelf.Lists.{take-more, take-more-set}
+use lib.ListN.{length, take, drop, getD, set, length-drop, length-append}
+use lib.Seq.{drop-drop, drop-set-lt, take-all, take-append-add, drop-append-add}
+use borrow.Rule.Slice.PartMut.{putMid}
+use Rattle.std.proofs.shelf.Lists.{take-more, take-more-set, take-rest, drop-all}
 use Rattle.undone.specs.Rows.{Puts}
 
 -- of lent cells, which were o, the first i are those of x, and the others as before
@@ -29,3 +30,20 @@ puts-from-filled {x} {o} {o′} f is =
 
 pub all-from-filled : {x o o′ : List ℕ} {i : ℕ} → Filled x o o′ i → i ≡ length x → length o′ ≡ length x → o′ ≡ x
 all-from-filled {x} {o} {o′} {i} f is long = sym (take-all i o′ (omega arith)) ∙ f .front ∙ take-all i x (omega arith)
+
+-- a row behind another, which was written before it
+pub puts-behind : (o o′ part x y : List ℕ) (n : ℕ) → n ≡ length x → n ≤ length o′ → length part ≡ length o′ - n → Puts o o′ x → Puts (take (length o′ - n) (drop n o′)) part y → Puts o (putMid n (length o′ - n) o′ part) (x ++ y)
+puts-behind o o′ part x y n is inside long (front, rest) (front-y, rest-y) = (
+  ap₂ take (length-append x y) now ∙ take-append-add x part (length y) ∙ ap (λ z. x ++ z) front-y,
+  ap₂ drop (length-append x y) now
+      ∙ drop-append-add x part (length y)
+      ∙ rest-y
+      ∙ ap (drop (length y)) (take-rest o′ n ∙ ap (λ i. drop i o′) is ∙ rest)
+      ∙ drop-drop (length y) (length x) o
+      ∙ ap (λ i. drop i o) (sym (length-append x y)),
+)
+  where
+    now : putMid n (length o′ - n) o′ part ≡ x ++ part
+    now =
+        ap₂ (λ z v. z ++ (part ++ v)) (ap (λ i. take i o′) is ∙ front) (drop-all (length o′ - n) (drop n o′) (omega (arith, length-drop n o′)))
+        ∙ ap (λ z. x ++ z) (append-nil part)

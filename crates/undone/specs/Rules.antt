@@ -4,6 +4,7 @@ use mathlib.Core.List.{List, [], _∷_, _++_, map}
 use Prim.Native.Nat.{ℕ, zero, suc, _+_, _-_, _*_, _^_, _≤_, _<_}
 use lib.ListN.{length, take, drop, getD}
 use Rattle.std.specs.shelf.Lists.{All}
+pub use Rattle.bfs.specs.Words.{digits}
 
 -- how many kinds of cells there are, how many cells a window has, and what comes of each window, in order of the window's
 -- number
@@ -26,14 +27,13 @@ Stray k u p = (p < length u) × Cells k (take p u) × (k ≤ getD u p 0)
 abbrev pub Piece : Rule → List ℕ → Type 0
 Piece r u = Cells (r .kinds) u
 
--- the number that cells write as digits in base k, the first the highest, after the number n
-abbrev pub digits : ℕ → ℕ → List ℕ → ℕ
-digits k n [] = n
-digits k n (x ∷ xs) = digits k (n * k + x) xs
-
 -- what comes of a window
 abbrev pub at : Rule → List ℕ → ℕ
 at r w = getD (r .table) (digits (r .kinds) 0 w) 0
+
+-- how many blocks there are: pieces of one cell less than a window
+abbrev pub blocks-of : Rule → ℕ
+blocks-of r = (r .kinds) ^ (r .wide - 1)
 
 -- a table that fits its kinds and its width: a rule, or a way back of one
 pub record Formed (r : Rule) : Type 0 where

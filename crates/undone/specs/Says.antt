@@ -6,6 +6,17 @@ use Prim.Native.Nat.{ℕ, _+_, _-_, _^_, _<_, _≤_}
 use lib.ListN.{length, getD}
 use Rattle.undone.specs.Rules.{Rule, rule-of, Sound, digits, next, Piece, Row, part}
 
+-- two pieces of one length and one next row
+pub record One-next (r : Rule) (u w : List ℕ) : Type 0 where
+  pub cells-u : Piece r u
+  pub cells-w : Piece r w
+  pub as-long : length u ≡ length w
+  pub same : next r u ≡ next r w
+
+-- any two pieces of v windows and one next row agree at o
+abbrev pub Tells : Rule → ℕ → ℕ → Type 0
+Tells r v o = (u w : List ℕ) → One-next r u w → length u ≡ v + (r .wide - 1) → getD u o 0 ≡ getD w o 0
+
 -- a way back of width v at place o: v cells of the next row, looked up, are the cell at o of the v + m - 1 that they come
 -- from
 pub record Back (r : Rule) (v o : ℕ) (t : List ℕ) : Type 0 where
@@ -15,10 +26,14 @@ pub record Back (r : Rule) (v o : ℕ) (t : List ℕ) : Type 0 where
   pub cells : Piece r t
   pub back : (u : List ℕ) → Piece r u → length u ≡ v + (r .wide - 1) → getD t (digits (r .kinds) 0 (next r u)) 0 ≡ getD u o 0
 
+-- no way back is of less width than v, nor of width v at a place before o
+abbrev pub None-less : Rule → ℕ → ℕ → Type 0
+None-less r v o = (w p : ℕ) (s : List ℕ) → Back r w p s → (v ≤ w) × (v ≡ w → o ≤ p)
+
 -- of the least width, and of these of the least place
 pub record Least (r : Rule) (v o : ℕ) (t : List ℕ) : Type 0 where
   pub is : Back r v o t
-  pub none-less : (w p : ℕ) (s : List ℕ) → Back r w p s → (v ≤ w) × (v ≡ w → o ≤ p)
+  pub none-less : None-less r v o
 
 -- two rows that differ, and have the same next row
 pub record Same-next (r : Rule) (a b : Row) : Type 0 where
