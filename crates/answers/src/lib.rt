@@ -1,3 +1,5 @@
+#![tactic(auto)]
+
 // Rules that are decided, and the text of their answers.
 pub mod answer;
 pub mod elementary;

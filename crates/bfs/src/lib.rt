@@ -1,3 +1,5 @@
+#![tactic(auto)]
+
 // Breadth-first search in lent words, for any deterministic automaton: the shortest word that leads from one state to another.
 ghost use Rattle.std.specs.Prelude.{◌≡◌, ℕ, ◌+◌, ◌*◌, ◌<◌, ◌≤◌, length, take, drop, MatchOption};
 ghost use Rattle.bfs.specs.Words.{NoWord};

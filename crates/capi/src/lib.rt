@@ -1,3 +1,5 @@
+#![tactic(auto)]
+
 // The library for C: answers as structs of numbers. `include/undone.h` declares what stands here.
 ghost use Rattle.std.specs.Prelude.{◌≡◌, length};
 ghost use Rattle.capi.specs.Numbers.{numbers_of, Stepped};

@@ -1,3 +1,5 @@
+#![tactic(auto)]
+
 // Carries out command lines from standard input, so that pictures and refusals are compared as well.
 use commands::decide::decide;
 use commands::fault::Fault;

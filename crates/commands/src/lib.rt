@@ -1,3 +1,5 @@
+#![tactic(auto)]
+
 // What the programs do with their arguments.
 pub mod back;
 pub mod cells;

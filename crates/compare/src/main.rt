@@ -1,3 +1,5 @@
+#![tactic(auto)]
+
 // Decides many rules and compares each answer with a second opinion, which shares no code with the decision. It is proved that
 // this ends and is safe; what it finds is only tested, which is its point.
 mod agreement;

@@ -1,3 +1,5 @@
+#![tactic(auto)]
+
 // Decides whether rules can be run backwards.
 use commands::decide::decide;
 use commands::fault::Fault;

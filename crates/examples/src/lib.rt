@@ -1,3 +1,5 @@
+#![tactic(auto)]
+
 // Rules by example: a crate of its own, so that what it tests is proved once.
 #[cfg(test)]
 mod decisions;

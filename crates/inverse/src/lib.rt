@@ -1,3 +1,5 @@
+#![tactic(auto)]
+
 // The least way back of a rule, by the pasts and the futures of its pairs.
 ghost use Rattle.std.specs.Prelude.{◌≡◌, ℕ, ◌+◌, ◌-◌, ◌^◌, ◌<◌, ◌≤◌, length, Decides, MatchOption};
 ghost use Rattle.pairs.specs.declared.Direction.TheVariants.{Past, Future};

@@ -1,3 +1,5 @@
+#![tactic(auto)]
+
 // The shortest orphan: the first word that leads from all blocks to none.
 ghost use Rattle.std.specs.Prelude.{◌≡◌, ℕ, ◌+◌, ◌-◌, ◌*◌, ◌^◌, ◌≤◌, length};
 ghost use Rattle.rules.specs.Local.{the_rule};

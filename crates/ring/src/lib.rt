@@ -1,3 +1,5 @@
+#![tactic(auto)]
+
 // A rule, or a way back, on a row in a ring.
 ghost use Rattle.std.specs.Prelude.{◌≡◌, ℕ, ◌<◌, length, MatchResult};
 ghost use Rattle.rules.specs.Local.{the_rule};

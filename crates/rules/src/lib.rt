@@ -1,3 +1,5 @@
+#![tactic(auto)]
+
 // Rules, by their tables, and the next rows of pieces.
 pub mod cells;
 pub mod local;

@@ -1,3 +1,5 @@
+#![tactic(auto)]
+
 // Runs a rule, or a way back, on a row in a ring.
 use commands::fault::Fault;
 use commands::run::run;

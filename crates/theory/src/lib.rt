@@ -1,3 +1,5 @@
+#![tactic(auto)]
+
 // The theorems that hold of every rule.
 ghost use Rattle.theory.specs.Says.{Parts};
 

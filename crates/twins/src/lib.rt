@@ -1,3 +1,5 @@
+#![tactic(auto)]
+
 // Twins: two endless rows that differ and have one next row, from a pair of different blocks with an endless past and an
 // endless future.
 //

@@ -1,3 +1,5 @@
+#![tactic(auto)]
+
 // Whether a rule can be run backwards: a way back, two rows of one next row, or a piece that comes from none.
 ghost use Rattle.std.specs.Prelude.{◌≤◌, length};
 ghost use Rattle.undone.specs.Decided.{Answer, DecidedPost, Lists, NoOrphans};

@@ -1,3 +1,5 @@
+#![tactic(auto)]
+
 // Decides rules from standard input, a line each. The file `stdout` has the right answers, from an independent program. Which
 // twins are told is open, so only the word is compared, and the rows are run here.
 use answers::answer::answer_line;

@@ -20,7 +20,7 @@ pub loop-head-preserved : goal.loop-head-preserved
 loop-head-preserved g c =
     let a = c.args.automaton.now in
     let is = origin_is c.loop-head.invariant.0.1.holds in
-    let more = c.in-default.ensures in
+    let more = c.in_default.ensures in
     (subst (λ s. Searched (g.A.Automaton.states a) (g.A.Automaton.symbols a) (g.A.Automaton.leads a) s c.expand.new.queue (c.loop-head.head + 1) 0) is more.0, more.1)
 
 pub returns : goal.returns

@@ -3,8 +3,8 @@ use Rattle.rules.specs.Local.{the_rule}
 use Rattle.pairs.proofs.Walks.{blocks_pos}
 use Rattle.inverse.proofs.apart.Goals as goal
 
-pub nonzero-div-first : goal.nonzero-div-first
-nonzero-div-first c = subst (λ n. 0 < n) (sym c.blocks-2.ensures) (blocks_pos (the_rule c.args.rule) c.requires.0)
+pub nonzero_div-first : goal.nonzero_div-first
+nonzero_div-first c = subst (λ n. 0 < n) (sym c.blocks-2.ensures) (blocks_pos (the_rule c.args.rule) c.requires.0)
 
-pub nonzero-rem-second : goal.nonzero-rem-second
-nonzero-rem-second c = subst (λ n. 0 < n) (sym c.blocks-3.ensures) (blocks_pos (the_rule c.args.rule) c.requires.0)
+pub nonzero_rem-second : goal.nonzero_rem-second
+nonzero_rem-second c = subst (λ n. 0 < n) (sym c.blocks-3.ensures) (blocks_pos (the_rule c.args.rule) c.requires.0)

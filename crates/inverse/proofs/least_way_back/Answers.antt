@@ -16,12 +16,12 @@ graph c =
     let r = the_rule c.args.rule in
     graph_from_writes r c.args.base c.args.work.now c.pasts.new.work c.futures.new.work c.pasts.ensures (subst (λ n. Writes r Future (c.args.base + n) c.pasts.new.work c.futures.new.work) (pairs c) c.futures.ensures)
 
-pub least-told-requires : goal.least-told-requires
-least-told-requires c =
+pub least_told-requires : goal.least_told-requires
+least_told-requires c =
     let r = the_rule c.args.rule in
     let ws = c.futures.new.work in
     let base = c.args.base in
-    let d = (goal.at.least-told-requires c).After-futures in (
+    let d = (goal.at.least_told-requires c).After-futures in (
       c.requires.0,
       (
         subst (λ n. Depths r Past (between base (base + n) ws)) (sym (pairs d)) (graph d).pasts,
@@ -30,4 +30,4 @@ least-told-requires c =
     )
 
 pub returns : goal.returns
-returns c = record { answers = c.least-told.ensures; graph = graph (goal.at.returns c).After-futures }
+returns c = record { answers = c.least_told.ensures; graph = graph (goal.at.returns c).After-futures }

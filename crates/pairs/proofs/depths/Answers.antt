@@ -19,5 +19,5 @@ returns c =
     let n = c.rounds.round in
     let most = pairs_le r c.requires.0 in
     let few = c.rounds.invariant.1 in
-    let same = c.drop-pairs.ensures.same c.rounds-test.false in
-    depths_from_rounds r c.requires.0 c.args.direction n (omega arith) c.drop-pairs.new.words (subst (Rounds r c.args.direction n) (sym same) c.rounds.invariant.0) c.drop-pairs.ensures.more (omega arith)
+    let same = c.drop_pairs.ensures.same c.rounds-test.false in
+    depths_from_rounds r c.requires.0 c.args.direction n (omega arith) c.drop_pairs.new.words (subst (Rounds r c.args.direction n) (sym same) c.rounds.invariant.0) c.drop_pairs.ensures.more (omega arith)

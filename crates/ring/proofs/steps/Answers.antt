@@ -5,19 +5,19 @@ use Rattle.ring.proofs.Seconds.{round_trips}
 use Rattle.ring.proofs.Turns.{turned_more, turned_piece, ring_piece, ran_even, ran_odd}
 use Rattle.ring.proofs.steps.Goals as goal
 
-pub returns-in-err-check-ring : goal.returns-in-err-check-ring
-returns-in-err-check-ring c =
-    let p = err_from_is_err_and c.from-residual.result c.from-residual.ensures.1 in
-    rw (p.1, p.2) (record { says = (refl, refl, c.in-err-check-ring.ensures); round_trips = round_trips })
+pub returns-in_err-check_ring : goal.returns-in_err-check_ring
+returns-in_err-check_ring c =
+    let p = err_from_is_err_and c.from_residual.result c.from_residual.ensures.1 in
+    rw (p.1, p.2) (record { says = (refl, refl, c.in_err-check_ring.ensures); round_trips = round_trips })
 
 pub turn-requires : goal.turn-requires
 turn-requires c =
-    let ok = c.in-ok-check-ring.ensures in
+    let ok = c.in_ok-check_ring.ensures in
     record { cells = turned_piece (formed_local c.args.rule) c.loop-two.invariant ok.0; some = omega arith; long = omega arith }
 
 pub turn-requires-in-loop-two : goal.turn-requires-in-loop-two
 turn-requires-in-loop-two c =
-    let ok = c.in-ok-check-ring.ensures in
+    let ok = c.in_ok-check_ring.ensures in
     record { cells = ring_piece c.args.place c.loop-two.row (formed_local c.args.rule) c.turn.ensures; some = omega arith; long = omega arith }
 
 pub loop-two-preserved : goal.loop-two-preserved
@@ -28,7 +28,7 @@ returns-then-seconds-eq0 c = record { says = ran_even c.args.seconds c.loop-two.
 
 pub turn-requires-2 : goal.turn-requires-2
 turn-requires-2 c =
-    let ok = c.in-ok-check-ring.ensures in
+    let ok = c.in_ok-check_ring.ensures in
     record { cells = turned_piece (formed_local c.args.rule) c.loop-two.invariant ok.0; some = omega arith; long = omega arith }
 
 pub returns : goal.returns

@@ -4,15 +4,15 @@ use Rattle.pairs.specs.Pairs.{pairs_of}
 use Rattle.twins.proofs.Along.{words_behind, rows_fit, written_along}
 use Rattle.twins.proofs.write_along.Goals as goal
 
-pub find-repeat-right-requires : goal.find-repeat-right-requires
-find-repeat-right-requires c =
+pub find_repeat-right-requires : goal.find_repeat-right-requires
+find_repeat-right-requires c =
     let fs = c.args.on.now in
     let pairs : c.blocks-2.result * c.blocks-3.result ≡ pairs_of (the_rule c.args.rule) = ap₂ ◌*◌ c.blocks-2.ensures c.blocks-3.ensures in
     words_behind (c.wide.result - 1) fs _ (omega (arith, c.requires.2.1, c.args.rule.some)) (λ i h. subst (λ n. get_or fs i 0 < n) (sym pairs) (c.requires.2.0.inside i h))
 
-pub write-rows-requires : goal.write-rows-requires
-write-rows-requires c = (c.requires.0.0, le_trans (rows_fit (the_rule c.args.rule) c.requires.0.0 _ _ c.args.back.now c.args.on.now c.requires.1.1 c.requires.2.1) c.requires.0.1)
+pub write_rows-requires : goal.write_rows-requires
+write_rows-requires c = (c.requires.0.0, le_trans (rows_fit (the_rule c.args.rule) c.requires.0.0 _ _ c.args.back.now c.args.on.now c.requires.1.1 c.requires.2.1) c.requires.0.1)
 
 pub returns : goal.returns
 returns c =
-    written_along (the_rule c.args.rule) c.requires.0.0 (c.wide.result - 1) (ap (λ n. n - 1) c.wide.ensures) c.args.back.now c.args.on.now c.requires.1.0 c.requires.2.0 c.requires.3 c.find-repeat-left.result c.find-repeat-right.result c.find-repeat-left.ensures c.find-repeat-right.ensures c.args.out.now c.write-rows.new.out c.write-rows.ensures
+    written_along (the_rule c.args.rule) c.requires.0.0 (c.wide.result - 1) (ap (λ n. n - 1) c.wide.ensures) c.args.back.now c.args.on.now c.requires.1.0 c.requires.2.0 c.requires.3 c.find_repeat-left.result c.find_repeat-right.result c.find_repeat-left.ensures c.find_repeat-right.ensures c.args.out.now c.write_rows.new.out c.write_rows.ensures

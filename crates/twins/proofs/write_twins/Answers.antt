@@ -10,18 +10,18 @@ use Rattle.twins.proofs.write_twins.Goals.{After-wide}
 steps : (c : After-wide) → c.blocks-2.result * c.blocks-3.result + c.wide.result ≡ pairs_of (the_rule c.args.rule) + c.args.rule.wide
 steps c = ap₂ ◌+◌ (ap₂ ◌*◌ c.blocks-2.ensures c.blocks-3.ensures) c.wide.ensures
 
-pub write-along-requires : goal.write-along-requires
-write-along-requires c =
+pub write_along-requires : goal.write_along-requires
+write_along-requires c =
     let r = the_rule c.args.rule in
     let from = sym c.walk.ensures.from in
-    let is = steps (goal.at.write-along-requires c).After-wide in (
+    let is = steps (goal.at.write_along-requires c).After-wide in (
       (c.requires.0, c.requires.4.0),
       (subst (λ x. Path r Past x c.walk.new.path) from c.walk.ensures, omega arith),
-      (subst (λ x. Path r Future x c.walk-2.new.path) from c.walk-2.ensures, omega (arith, c.walk-2.auto.path, c.split-at-mut-back.ensures.back_len, length-take (2 * (c.blocks-2.result * c.blocks-3.result + c.wide.result)) c.args.work.now, c.requires.4.1)),
+      (subst (λ x. Path r Future x c.walk-2.new.path) from c.walk-2.ensures, omega (arith, c.walk-2.auto.path, c.split_at_mut-back.ensures.back_len, length-take (2 * (c.blocks-2.result * c.blocks-3.result + c.wide.result)) c.args.work.now, c.requires.4.1)),
       subst (Unlike r) from c.requires.3,
     )
 
 pub returns : goal.returns
 returns c =
     let is = steps (goal.at.returns c).After-wide in
-    record { twins = c.write-along.ensures; rest = drop-append-drop (2 * (c.blocks-2.result * c.blocks-3.result + c.wide.result)) c.args.work.now _ (2 * (pairs_of (the_rule c.args.rule) + c.args.rule.wide)) (omega arith) (search rules) }
+    record { twins = c.write_along.ensures; rest = drop-append-drop (2 * (c.blocks-2.result * c.blocks-3.result + c.wide.result)) c.args.work.now _ (2 * (pairs_of (the_rule c.args.rule) + c.args.rule.wide)) (omega arith) (search rules) }

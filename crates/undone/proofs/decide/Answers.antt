@@ -15,9 +15,9 @@ same c = λ i. record { kinds = c.new-rule.ensures.kinds i; wide = c.new-rule.en
 pub returns-then-work-lt-WORK : goal.returns-then-work-lt-WORK
 returns-then-work-lt-WORK c = decided_few _ _ _ _ _ c.if-work-lt-WORK.true
 
-pub returns-in-default : goal.returns-in-default
-returns-in-default c =
-    decided_no_rule _ _ _ _ _ c.if-work-lt-WORK.false (unsound_from_unfit c.args.kinds c.args.wide c.args.table.now _ c.in-default.ensures.says)
+pub returns-in_default : goal.returns-in_default
+returns-in_default c =
+    decided_no_rule _ _ _ _ _ c.if-work-lt-WORK.false (unsound_from_unfit c.args.kinds c.args.wide c.args.table.now _ c.in_default.ensures.says)
 
 -- the rule is one that can be decided
 sound : (c : After-new-rule) → Sound (the_rule c.new-rule.result)
@@ -28,9 +28,9 @@ answered : (c : After-new-rule) (o' : List ℕ) (d : Decided) → Answer (the_ru
 answered c o' d answer =
     decided _ _ _ _ _ o' d c.if-work-lt-WORK.false c.in-Ok.ensures.says.0 (subst (λ r. Answer r c.args.out.now o' d) (same c) answer)
 
-pub first-orphan-requires : goal.first-orphan-requires
-first-orphan-requires c =
-    let s = sound (goal.at.first-orphan-requires c).After-new-rule in
+pub first_orphan-requires : goal.first_orphan-requires
+first_orphan-requires c =
+    let s = sound (goal.at.first_orphan-requires c).After-new-rule in
     record { sound = s; room = omega (arith, enough (the_rule c.new-rule.result) s, c.if-work-lt-WORK.false) }
 
 pub returns-in-Word : goal.returns-in-Word

@@ -4,11 +4,11 @@ use Rattle.rules.specs.Local.{the_rule}
 use Rattle.pairs.specs.Pairs.{pairs_of, Depths}
 use Rattle.undone.proofs.invert.Goals as goal
 
-pub tell-twins-requires : goal.tell-twins-requires
-tell-twins-requires c =
+pub tell_twins-requires : goal.tell_twins-requires
+tell_twins-requires c =
     let r = the_rule c.args.rule in
     let n = pairs_of r in
-    let ws = c.least-way-back.new.work in
+    let ws = c.least_way_back.new.work in
     let graph = c.in-Twins.ensures.graph in
     record {
       sound = c.requires.sound;

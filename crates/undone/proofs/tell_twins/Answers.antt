@@ -26,15 +26,15 @@ halves ws front back n split long = (
   ap (λ l. take n (drop n l)) split ∙ ap (take n) (drop-append-le n front back (omega arith)) ∙ take_at (drop n front) back n (omega (arith, length-drop n front)),
 )
 
-pub write-twins-lengths-requires : goal.write-twins-lengths-requires
-write-twins-lengths-requires c =
+pub write_twins-lengths-requires : goal.write_twins-lengths-requires
+write_twins-lengths-requires c =
     let r = the_rule c.args.rule in
     let x = c.requires.pair in
     let n : c.blocks-2.result * c.blocks-3.result ≡ pairs_of r = ap₂ ◌*◌ c.blocks-2.ensures c.blocks-3.ensures in
-    let split = c.split-at-mut-graph.ensures in
-    let two = halves c.args.work.now c.split-at-mut-graph.result.0.now c.split-at-mut-graph.result.1.now (pairs_of r) split.value (omega (arith, split.front-len)) in
-    let pasts = subst (Depths r Past) (two.0 ∙ ap (λ l. take l c.split-at-mut-graph.result.0.now) (sym n) ∙ sym c.split-at.ensures.front) c.requires.graph.0 in
-    let futures = subst (Depths r Future) (two.1 ∙ ap (λ l. drop l c.split-at-mut-graph.result.0.now) (sym n) ∙ sym c.split-at.ensures.back) c.requires.graph.1 in (
+    let split = c.split_at_mut-graph.ensures in
+    let two = halves c.args.work.now c.split_at_mut-graph.result.0.now c.split_at_mut-graph.result.1.now (pairs_of r) split.value (omega (arith, split.front_len)) in
+    let pasts = subst (Depths r Past) (two.0 ∙ ap (λ l. take l c.split_at_mut-graph.result.0.now) (sym n) ∙ sym c.split_at.ensures.front) c.requires.graph.0 in
+    let futures = subst (Depths r Future) (two.1 ∙ ap (λ l. drop l c.split_at_mut-graph.result.0.now) (sym n) ∙ sym c.split_at.ensures.back) c.requires.graph.1 in (
       c.requires.sound,
       (pasts, lasting r Past _ _ pasts x.inside x.past),
       (futures, lasting r Future _ _ futures x.inside x.future),

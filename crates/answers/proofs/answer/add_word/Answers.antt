@@ -7,4 +7,4 @@ use Rattle.answers.proofs.answer.add_word.Goals as goal
 pub returns : goal.returns
 unfolding encode
 returns c =
-    added_more (string_bytes c.args.line.now) (32 ∷ []) (written c.args.cells.now) c.in-ok-push.ensures.bytes c.in-ok-write-cells.ensures.is
+    added_more (string_bytes c.args.line.now) (32 ∷ []) (written c.args.cells.now) c.in_ok-push.ensures.bytes c.in_ok-write_cells.ensures.is

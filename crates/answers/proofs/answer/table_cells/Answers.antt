@@ -2,5 +2,5 @@ use Rattle.std.proofs.Common.{◌^◌, sym, arith}
 use Rattle.std.proofs.lemmas.List.{take_all}
 use Rattle.answers.proofs.answer.table_cells.Goals as goal
 
-pub returns-in-default : goal.returns-in-default
-returns-in-default c = sym (take_all (c.args.kinds ^ c.args.width) c.args.out.now (omega (arith, c.in-default.ensures)))
+pub returns-in_default : goal.returns-in_default
+returns-in_default c = sym (take_all (c.args.kinds ^ c.args.width) c.args.out.now (omega (arith, c.in_default.ensures)))

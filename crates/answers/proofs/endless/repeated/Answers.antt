@@ -3,6 +3,6 @@ use Rattle.answers.proofs.endless.repeated.Goals as goal
 
 pub loop-time-preserved : goal.loop-time-preserved
 loop-time-preserved c =
-    let added = c.in-ok-extend-from-slice.ensures.items in
+    let added = c.in_ok-extend_from_slice.ensures.items in
     let more = copies_more c.loop-time.-time c.args.cells.now in
     cc

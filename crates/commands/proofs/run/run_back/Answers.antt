@@ -6,9 +6,9 @@ use Rattle.commands.proofs.run.run_back.Goals as goal
 pub new-back-requires : goal.new-back-requires
 new-back-requires c =
     let g = c.args.given in
-    let w = c.in-ok-told.told.width in
-    let out = c.find-way-back.new.out in
-    let slice = c.as-slice.result.now in
-    let same : slice ≡ out = c.as-slice.ensures.value ∙ take_at out _ c.in-ok-out.out.len (omega (arith, c.as-mut-slice.ensures.len)) in
-    let table = c.table-cells-table.ensures ∙ (ap (λ k. take (k ^ w) slice) c.kinds.ensures ∙ ap (take (g.kinds ^ w)) same) in
-    subst (λ k. Formed (rule_of k w c.table-cells-table.result.now)) (sym c.kinds-2.ensures) (subst (λ t. Formed (rule_of g.kinds w t)) (sym table) (formed_back (sound_given g) c.in-ok-told.ensures))
+    let w = c.in_ok-told.told.width in
+    let out = c.find_way_back.new.out in
+    let slice = c.as_slice.result.now in
+    let same : slice ≡ out = c.as_slice.ensures.value ∙ take_at out _ c.in_ok-out.out.len (omega (arith, c.as_mut_slice.ensures.len)) in
+    let table = c.table_cells-table.ensures ∙ (ap (λ k. take (k ^ w) slice) c.kinds.ensures ∙ ap (take (g.kinds ^ w)) same) in
+    subst (λ k. Formed (rule_of k w c.table_cells-table.result.now)) (sym c.kinds-2.ensures) (subst (λ t. Formed (rule_of g.kinds w t)) (sym table) (formed_back (sound_given g) c.in_ok-told.ensures))

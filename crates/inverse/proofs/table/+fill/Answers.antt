@@ -98,5 +98,5 @@ returns t c =
       kept = c.loop-cell.invariant.0;
     }
 
-pub offset-bounds-out-prefix : goal.offset-bounds-out-prefix
-offset-bounds-out-prefix t c = record { fits = omega (arith, bounds-out-prefix t c) }
+pub offset_bounds-out-prefix : goal.offset_bounds-out-prefix
+offset_bounds-out-prefix t c = record { fits = omega (arith, bounds-out-prefix t c) }

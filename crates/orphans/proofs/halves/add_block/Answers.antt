@@ -13,8 +13,8 @@ kind_lt i n kind some is = omega (arith, mod-lt i some)
 pub loop-i-init : goal.loop-i-init
 loop-i-init c = (sym (mod-eq_of_lt c.requires.some), (λ q l. refl), λ q l. absurd (omega arith))
 
-pub offset-bounds-mask-kind : goal.offset-bounds-mask-kind
-offset-bounds-mask-kind c = let l = kind_lt c.loop-i.i (length c.args.mask.now) c.loop-i.kind c.requires.some c.loop-i.invariant.0 in search rules
+pub offset_bounds-mask-kind : goal.offset_bounds-mask-kind
+offset_bounds-mask-kind c = let l = kind_lt c.loop-i.i (length c.args.mask.now) c.loop-i.kind c.requires.some c.loop-i.invariant.0 in search rules
 
 pub bounds-mask-kind : goal.bounds-mask-kind
 bounds-mask-kind c = kind_lt c.loop-i.i (length c.args.mask.now) c.loop-i.kind c.requires.some c.loop-i.invariant.0

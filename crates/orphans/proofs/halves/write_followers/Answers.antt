@@ -20,7 +20,7 @@ module _ (c : After-kinds-kinds) where
 
   shifted : (n : ℕ) → n ≤ c.args.count → (c.kinds-kinds.result * 2 ^ n) % 2 ^ 64 ≡ 2 ^ n * c.kinds-kinds.result
   shifted n l =
-      shl_whole c.kinds-kinds.result 32 n 64 c.kinds-kinds.type-inv (omega (arith, c.requires.blocks, c.requires.few)) ∙ mul_comm c.kinds-kinds.result (2 ^ n)
+      shl_whole c.kinds-kinds.result 32 n 64 c.kinds-kinds.type_inv (omega (arith, c.requires.blocks, c.requires.few)) ∙ mul_comm c.kinds-kinds.result (2 ^ n)
 
   -- the masks of a block are all there
   mask-row-le : (i : ℕ) → i < c.args.count → (c.args.first + i) * c.kinds-kinds.result + c.kinds-kinds.result ≤ length c.args.masks.now
@@ -28,8 +28,8 @@ module _ (c : After-kinds-kinds) where
       let k = c.kinds-kinds.result in
       omega (arith, add-mul (c.args.first + i) 1 k, mul-le-mul_right {m = c.args.first + i + 1} {n = blocks_of (the_rule c.args.rule)} k (omega (arith, c.requires.blocks)), ap (λ k. blocks_of (the_rule c.args.rule) * k) c.kinds-kinds.ensures, pow_pred c.args.rule.kinds c.args.rule.wide c.args.rule.some, c.requires.masks.full)
 
-pub slice-bounds-fill-end : goal.slice-bounds-fill-end
-slice-bounds-fill-end c = let l : c.kinds-kinds.result ≤ length c.args.table.now = omega (arith, rows-le c 0 (omega arith), pow-zero 2) in search rules
+pub slice_bounds-fill-end : goal.slice_bounds-fill-end
+slice_bounds-fill-end c = let l : c.kinds-kinds.result ≤ length c.args.table.now = omega (arith, rows-le c 0 (omega arith), pow-zero 2) in search rules
 
 pub loop-block-init : goal.loop-block-init
 loop-block-init c =
@@ -37,15 +37,15 @@ loop-block-init c =
     let l : k ≤ length c.args.table.now = omega (arith, rows-le (goal.at.loop-block-init c).After-kinds-kinds 0 (omega arith), pow-zero 2) in
     filled_none (λ p below. get_or_append_left c.fill.new.self _ 0 p (omega (arith, c.fill.ensures.len, length-take (k - 0) c.args.table.now, c.kinds-kinds.ensures)) ∙ subst (λ ts. get_or ts p 0 ≡ 0) (sym (c.fill.ensures.after (λ y e. e))) (get_or-replicate (length (take (k - 0) c.args.table.now)) p 0 0 (omega (arith, length-take (k - 0) c.args.table.now, c.kinds-kinds.ensures))))
 
-pub offset-bounds-masks-row : goal.offset-bounds-masks-row
-offset-bounds-masks-row c = let l = mask-row-le (goal.at.offset-bounds-masks-row c).After-kinds-kinds c.loop-block.block c.loop-block-test.true in search rules
+pub offset_bounds-masks-row : goal.offset_bounds-masks-row
+offset_bounds-masks-row c = let l = mask-row-le (goal.at.offset_bounds-masks-row c).After-kinds-kinds c.loop-block.block c.loop-block-test.true in search rules
 
-pub slice-bounds-add-block-end : goal.slice-bounds-add-block-end
-slice-bounds-add-block-end c = let l = mask-row-le (goal.at.slice-bounds-add-block-end c).After-kinds-kinds c.loop-block.block c.loop-block-test.true in search rules
+pub slice_bounds-add_block-end : goal.slice_bounds-add_block-end
+slice_bounds-add_block-end c = let l = mask-row-le (goal.at.slice_bounds-add_block-end c).After-kinds-kinds c.loop-block.block c.loop-block-test.true in search rules
 
-pub add-block-requires : goal.add-block-requires
-add-block-requires c =
-    let a = (goal.at.add-block-requires c).After-kinds-kinds in
+pub add_block-requires : goal.add_block-requires
+add_block-requires c =
+    let a = (goal.at.add_block-requires c).After-kinds-kinds in
     let b = c.loop-block.block in
     let k = c.kinds-kinds.result in
     let twice : 2 ^ (b + 1) * k ≡ 2 ^ b * k + 2 ^ b * k = ap (λ n. n * k) {y = 2 ^ b + 2 ^ b} (ap (λ n. 2 ^ n) (add-one b) ∙ omega (arith, pow-suc 2 b)) ∙ add-mul (2 ^ b) (2 ^ b) k in
@@ -68,8 +68,8 @@ loop-block-preserved c =
     get_or-take (row + k - row) (drop row c.args.masks.now) x 0 (omega (arith, c.kinds-kinds.ensures))
     ∙ get_or-drop row c.args.masks.now x 0
     ∙ mask_at c.requires.masks c.args.rule.some k (c.args.first + b) x c.kinds-kinds.ensures (omega (arith, c.requires.blocks, c.loop-block-test.true)) l in
-    filled_more ((k * 2 ^ b) % 2 ^ 64) (omega arith) (shifted a b (omega arith) ∙ ap (λ k. 2 ^ b * k) c.kinds-kinds.ensures) c.loop-block.invariant c.add-block.ensures.without
-    (λ q l. c.add-block.ensures.besides q l ∙ ap (bit_or (get_or c.loop-block.table q 0)) (ap (λ n. get_or mask (q % n) 0) long ∙ at (q % r.kinds) (mod-lt q (omega arith))))
+    filled_more ((k * 2 ^ b) % 2 ^ 64) (omega arith) (shifted a b (omega arith) ∙ ap (λ k. 2 ^ b * k) c.kinds-kinds.ensures) c.loop-block.invariant c.add_block.ensures.without
+    (λ q l. c.add_block.ensures.besides q l ∙ ap (bit_or (get_or c.loop-block.table q 0)) (ap (λ n. get_or mask (q % n) 0) long ∙ at (q % r.kinds) (mod-lt q (omega arith))))
 
 pub returns : goal.returns
 returns c = followers_from_filled (omega (arith, c.loop-block.auto.table, c.requires.room)) (le_antisymm c.loop-block.auto.block-end c.loop-block-test.false) c.loop-block.invariant

@@ -18,11 +18,11 @@ inside c =
 pub bounds-masks-place : goal.bounds-masks-place
 bounds-masks-place c = inside (goal.at.bounds-masks-place c).After-cell
 
-pub nonzero-rem-window : goal.nonzero-rem-window
-nonzero-rem-window c = omega (arith, blocks_pos (the_rule c.args.rule) (omega arith))
+pub nonzero_rem-window : goal.nonzero_rem-window
+nonzero_rem-window c = omega (arith, blocks_pos (the_rule c.args.rule) (omega arith))
 
 pub with-requires : goal.with-requires
-with-requires c = omega (arith, mod-lt c.loop-window.window (nonzero-rem-window c))
+with-requires c = omega (arith, mod-lt c.loop-window.window (nonzero_rem-window c))
 
 pub bounds-masks-place-in-loop-window : goal.bounds-masks-place-in-loop-window
 bounds-masks-place-in-loop-window c = inside (goal.at.bounds-masks-place-in-loop-window c).After-cell

@@ -11,15 +11,15 @@ windows : (c : After-kinds) → c.blocks-2.result * c.kinds.result ≡ c.args.ru
 windows c =
     ap (λ k. c.blocks-2.result * k) c.kinds.ensures ∙ windows_of_blocks c.args.rule.kinds c.args.rule.wide c.blocks-2.result c.args.rule.some c.blocks-2.ensures
 
-pub overflow-add-base : goal.overflow-add-base
-overflow-add-base c = let is = windows (goal.at.overflow-add-base c).After-kinds in search rules
+pub overflow_add-base : goal.overflow_add-base
+overflow_add-base c = let is = windows (goal.at.overflow_add-base c).After-kinds in search rules
 
-pub slice-bounds-fill-masks-end : goal.slice-bounds-fill-masks-end
-slice-bounds-fill-masks-end c = let is = windows (goal.at.slice-bounds-fill-masks-end c).After-kinds in search rules
+pub slice_bounds-fill_masks-end : goal.slice_bounds-fill_masks-end
+slice_bounds-fill_masks-end c = let is = windows (goal.at.slice_bounds-fill_masks-end c).After-kinds in search rules
 
-pub fill-masks-requires : goal.fill-masks-requires
-fill-masks-requires c =
-    let is = windows (goal.at.fill-masks-requires c).After-kinds in
+pub fill_masks-requires : goal.fill_masks-requires
+fill_masks-requires c =
+    let is = windows (goal.at.fill_masks-requires c).After-kinds in
     (c.requires.0, simp (length-take, length-drop) (omega arith))
 
 pub returns : goal.returns
@@ -28,8 +28,8 @@ returns c =
     let a = c.args.base in
     let n = a + c.blocks-2.result * c.kinds.result - a in
     let w = c.args.work.now in
-    let ms = c.fill-masks.new.masks in
-    let m = c.fill-masks.ensures in
+    let ms = c.fill_masks.new.masks in
+    let m = c.fill_masks.ensures in
     let end = a + c.args.rule.kinds ^ c.args.rule.wide in
     record {
       masks = subst (Masks (the_rule c.args.rule)) (sym (between-put_mid a n w ms end (omega arith) (omega arith))) m;

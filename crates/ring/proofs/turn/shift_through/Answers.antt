@@ -14,17 +14,17 @@ windows c =
 small : (c : After-kinds) → c.args.rule.kinds ^ c.args.rule.wide < 2 ^ 64
 small c = omega (arith, c.args.rule.full)
 
-pub overflow-mul-mask : goal.overflow-mul-mask
-overflow-mul-mask c = record { fits = omega (arith, windows c, small c) }
+pub overflow_mul-mask : goal.overflow_mul-mask
+overflow_mul-mask c = record { fits = omega (arith, windows c, small c) }
 
-pub overflow-sub-mask : goal.overflow-sub-mask
-overflow-sub-mask c = omega (arith, windows c, one-le-pow c.args.rule.wide c.args.rule.kinds (omega (arith, c.args.rule.two)))
+pub overflow_sub-mask : goal.overflow_sub-mask
+overflow_sub-mask c = omega (arith, windows c, one-le-pow c.args.rule.wide c.args.rule.kinds (omega (arith, c.args.rule.two)))
 
 pub loop-i-init : goal.loop-i-init
 loop-i-init c b ends = shifted_none c.args.from.now c.args.to.now ends
 
-pub overflow-shl-number : goal.overflow-shl-number
-overflow-shl-number c = bits_lt c.args.rule.kinds c.args.bits c.requires.bits (omega arith)
+pub overflow_shl-number : goal.overflow_shl-number
+overflow_shl-number c = bits_lt c.args.rule.kinds c.args.bits c.requires.bits (omega arith)
 
 pub cell-requires : goal.cell-requires
 cell-requires c =

@@ -7,33 +7,33 @@ use Rattle.ring.specs.Ring.{unrolled, start, ring_from, ring}
 use Rattle.ring.proofs.Unrolled.{unrolled_mod}
 use Rattle.ring.proofs.Shifting.{ends_unrolled, shifted_ring}
 use Rattle.ring.proofs.turn.turn.Goals as goal
-use Rattle.ring.proofs.turn.turn.Goals.{After-block-from-last}
+use Rattle.ring.proofs.turn.turn.Goals.{After-block_from-last}
 
 -- the second starts where its first window does, once round the ring or not
-from_start : (c : After-block-from-last) → ring_from (the_rule c.args.rule) (start c.args.place (length c.args.from.now) % length c.args.from.now) c.args.from.now ≡ ring (the_rule c.args.rule) c.args.place c.args.from.now
+from_start : (c : After-block_from-last) → ring_from (the_rule c.args.rule) (start c.args.place (length c.args.from.now) % length c.args.from.now) c.args.from.now ≡ ring (the_rule c.args.rule) c.args.place c.args.from.now
 from_start c =
     let u = c.args.from.now in
     ap (next (the_rule c.args.rule)) (unrolled_mod u c.requires.some (start c.args.place (length u)) (length u + (c.args.rule.wide - 1)))
 
-pub shift-through-middle-requires : goal.shift-through-middle-requires
-shift-through-middle-requires c =
+pub shift_through-middle-requires : goal.shift_through-middle-requires
+shift_through-middle-requires c =
     let u = c.args.from.now in
-    let last = c.block-from-last.result.1 in
+    let last = c.block_from-last.result.1 in
     record {
       cells = All-take (λ x. x < c.args.rule.kinds) (length u - last) (drop last u) (All-drop (λ x. x < c.args.rule.kinds) last u c.requires.cells);
       long = simp (length-take, length-drop) (omega arith);
       bits = omega (arith, c.in-Some.ensures);
     }
 
-pub shift-through-requires : goal.shift-through-requires
-shift-through-requires c =
+pub shift_through-requires : goal.shift_through-requires
+shift_through-requires c =
     let u = c.args.from.now in
-    let last = c.block-from-last.result.1 in
+    let last = c.block_from-last.result.1 in
     let behind = mod-lt (start c.args.place (length u) % length u + (c.args.rule.wide - 1)) c.requires.some in
     let front = length-take (length u - last) c.args.to.now in
     record {
       cells = All-take (λ x. x < c.args.rule.kinds) last u c.requires.cells;
-      long = simp (length-take, length-drop, length-append) (omega (arith, c.block-from-last.ensures.behind));
+      long = simp (length-take, length-drop, length-append) (omega (arith, c.block_from-last.ensures.behind));
       bits = omega (arith, c.in-Some.ensures);
     }
 
@@ -42,14 +42,14 @@ returns-in-Some c =
     let r = the_rule c.args.rule in
     let u = c.args.from.now in
     let s = start c.args.place (length u) % length u in
-    let last = c.block-from-last.result.1 in
+    let last = c.block_from-last.result.1 in
     let x = take (length u - last) (drop last u) in
     let block = unrolled s (c.args.rule.wide - 1) u in
-    let ends = ends_unrolled r u s c.requires.some c.requires.cells c.block-from-last.ensures.number in
-    let middle = c.shift-through-middle.ensures in
+    let ends = ends_unrolled r u s c.requires.some c.requires.cells c.block_from-last.ensures.number in
+    let middle = c.shift_through-middle.ensures in
     let long = length-take (length u - last) c.args.to.now in
-    shifted_ring r u s last x c.shift-through-middle.new.to (drop (length u - last) c.args.to.now) c.shift-through.new.to c.args.rule.some c.requires.some c.block-from-last.ensures.behind (take_rest u last) (omega arith) (middle.row block ends) (c.shift-through.ensures.row (drop (length x) (block ++ x)) (middle.block block ends))
-    ∙ from_start (goal.at.returns-in-Some c).After-block-from-last
+    shifted_ring r u s last x c.shift_through-middle.new.to (drop (length u - last) c.args.to.now) c.shift_through.new.to c.args.rule.some c.requires.some c.block_from-last.ensures.behind (take_rest u last) (omega arith) (middle.row block ends) (c.shift_through.ensures.row (drop (length x) (block ++ x)) (middle.block block ends))
+    ∙ from_start (goal.at.returns-in-Some c).After-block_from-last
 
 pub returns-in-None : goal.returns-in-None
-returns-in-None c = c.multiply-through.ensures ∙ from_start (goal.at.returns-in-None c).After-block-from-last
+returns-in-None c = c.multiply_through.ensures ∙ from_start (goal.at.returns-in-None c).After-block_from-last

@@ -6,11 +6,11 @@ use Rattle.text.proofs.parse.parse_cells.Goals.{In-Some}
 
 -- what `digit` said of the byte holds of the text
 found : (c : In-Some) → DigitOf (get_or c.args.text.now c.loop-place.place 0) c.in-Some.kind
-found c = subst (λ s. DigitOf (get_or s c.loop-place.place 0) c.in-Some.kind) c.as-bytes-byte-items.ensures.value c.in-Some.ensures
+found c = subst (λ s. DigitOf (get_or s c.loop-place.place 0) c.in-Some.kind) c.as_bytes-byte-items.ensures.value c.in-Some.ensures
 
-pub returns-in-default : goal.returns-in-default
-returns-in-default c =
-    let bad = subst (λ s. NotDigit (get_or s c.loop-place.place 0)) c.as-bytes-byte-items.ensures.value c.in-default.ensures in
+pub returns-in_default : goal.returns-in_default
+returns-in_default c =
+    let bad = subst (λ s. NotDigit (get_or s c.loop-place.place 0)) c.as_bytes-byte-items.ensures.value c.in_default.ensures in
     (stops_at _ _ _ _ (omega arith) c.loop-place.invariant (λ v _. bad v), bad)
 
 pub returns-then-kind-kinds : goal.returns-then-kind-kinds
@@ -22,7 +22,7 @@ pub loop-place-preserved : goal.loop-place-preserved
 loop-place-preserved c =
     let here = found (goal.at.loop-place-preserved c).In-Some in
     let inside : c.loop-place.place < length c.args.text.now = omega arith in
-    rw c.in-ok-push.ensures.items (spells_more _ _ _ _ _ inside c.loop-place.invariant here c.if-kind-kinds.false)
+    rw c.in_ok-push.ensures.items (spells_more _ _ _ _ _ inside c.loop-place.invariant here c.if-kind-kinds.false)
 
 pub returns : goal.returns
 returns c = reads_all _ _ _ _ (omega arith) c.loop-place.invariant

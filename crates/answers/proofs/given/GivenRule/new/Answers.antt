@@ -3,8 +3,8 @@ use Rattle.std.proofs.ByRecursion.{All-get_or}
 use Rattle.rules.specs.Rules.{rule_of, Sound}
 use Rattle.answers.proofs.given.GivenRule.new.Goals as goal
 
-pub invariant-of-result : goal.invariant-of-result
-invariant-of-result c =
+pub invariant_of-result : goal.invariant_of-result
+invariant_of-result c =
     let k = c.args.kinds in
-    let s = subst (λ t. Sound (rule_of k c.args.wide t)) c.as-slice.ensures.value c.in-ok-check-rule.ensures.says.0 in
+    let s = subst (λ t. Sound (rule_of k c.args.wide t)) c.as_slice.ensures.value c.in_ok-check_rule.ensures.says.0 in
     (s.kinds, (s.wide, (s.small, (s.full, (λ i h. All-get_or (λ x. x < k) (vec_items c.args.table) i 0 h s.cells, tt)))))

@@ -7,4 +7,4 @@ use Rattle.answers.proofs.given.GivenRule.rule.Goals as goal
 pub new-requires : goal.new-requires
 new-requires c =
     let g = c.args.self.now in
-    subst (λ t. Formed (rule_of g.kinds g.wide t)) (sym c.as-slice.ensures.value) (formed_from_sound (sound_given g))
+    subst (λ t. Formed (rule_of g.kinds g.wide t)) (sym c.as_slice.ensures.value) (formed_from_sound (sound_given g))

@@ -8,5 +8,5 @@ returns c =
     record {
       room = record { small = search rules; states_long = search rules; parents_long = search rules; symbols_long = search rules; found_long = search rules };
       none = refl;
-      clear = λ v h. in_zeros (length c.split-at-mut-found.result.0.now) v (subst (InWords v) (c.fill.ensures.after (λ x e. e)) h);
+      clear = λ v h. in_zeros (length c.split_at_mut-found.result.0.now) v (subst (InWords v) (c.fill.ensures.after (λ x e. e)) h);
     }

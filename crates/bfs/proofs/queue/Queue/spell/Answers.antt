@@ -5,8 +5,8 @@ use Rattle.bfs.proofs.queue.Queue.spell.Goals as goal
 pub loop-at-init : goal.loop-at-init
 loop-at-init c = written_none c.requires.spells c.requires.long refl
 
-pub overflow-sub-n : goal.overflow-sub-n
-overflow-sub-n c = left_some c.requires.spells c.loop-at.invariant c.loop-at-test.true
+pub overflow_sub-n : goal.overflow_sub-n
+overflow_sub-n c = left_some c.requires.spells c.loop-at.invariant c.loop-at-test.true
 
 pub bounds-word-n : goal.bounds-word-n
 bounds-word-n c = omega (arith, left_some c.requires.spells c.loop-at.invariant c.loop-at-test.true, c.loop-at.invariant.room)

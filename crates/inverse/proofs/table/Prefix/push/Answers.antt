@@ -33,8 +33,8 @@ pub returns-then-long-wide : goal.returns-then-long-wide
 returns-then-long-wide c p keeps =
     keeps_short keeps c.args.cell.0 c.requires.kind (omega (arith, keeps.long)) refl (window (goal.at.returns-then-long-wide c).After-push-window) refl (told (goal.at.returns-then-long-wide c).Joined-self-place p keeps)
 
-pub nonzero-rem-block : goal.nonzero-rem-block
-nonzero-rem-block c = omega (arith, one-le-pow (c.args.rule.wide - 1) c.args.rule.kinds (omega (arith, c.args.rule.two)))
+pub nonzero_rem-block : goal.nonzero_rem-block
+nonzero_rem-block c = omega (arith, one-le-pow (c.args.rule.wide - 1) c.args.rule.kinds (omega (arith, c.args.rule.two)))
 
 pub cell-requires : goal.cell-requires
 cell-requires c =

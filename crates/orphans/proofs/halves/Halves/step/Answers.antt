@@ -33,14 +33,14 @@ module _ (c : After-kinds-kinds) where
   high-inside : c.args.set.0 / 2 ^ c.args.self.half * c.kinds-kinds.result + c.args.kind.0 < length c.args.self.high.now
   high-inside = followers_lt highs c.kinds-kinds.result (c.args.set.0 / 2 ^ c.args.self.half) c.args.kind.0 c.kinds-kinds.ensures high_lt c.requires.kind
 
-pub offset-bounds-self-low : goal.offset-bounds-self-low
-offset-bounds-self-low c = let l = low-inside (goal.at.offset-bounds-self-low c).After-kinds-kinds in search rules
+pub offset_bounds-self-low : goal.offset_bounds-self-low
+offset_bounds-self-low c = let l = low-inside (goal.at.offset_bounds-self-low c).After-kinds-kinds in search rules
 
 pub bounds-self-low : goal.bounds-self-low
 bounds-self-low c = low-inside (goal.at.bounds-self-low c).After-kinds-kinds
 
-pub offset-bounds-self-high : goal.offset-bounds-self-high
-offset-bounds-self-high c = let l = high-inside (goal.at.offset-bounds-self-high c).After-kinds-kinds in search rules
+pub offset_bounds-self-high : goal.offset_bounds-self-high
+offset_bounds-self-high c = let l = high-inside (goal.at.offset_bounds-self-high c).After-kinds-kinds in search rules
 
 pub bounds-self-high : goal.bounds-self-high
 bounds-self-high c = high-inside (goal.at.bounds-self-high c).After-kinds-kinds

@@ -17,8 +17,8 @@ inside c =
     let l = c.args.self.rule in
     omega (arith, place_lt (the_rule l) l.some c.kinds-kinds.result c.loop-block.block c.args.kind.0 c.kinds-kinds.ensures (omega arith) c.requires)
 
-pub offset-bounds-self-block : goal.offset-bounds-self-block
-offset-bounds-self-block c = let l = inside (goal.at.offset-bounds-self-block c).After-has in search rules
+pub offset_bounds-self-block : goal.offset_bounds-self-block
+offset_bounds-self-block c = let l = inside (goal.at.offset_bounds-self-block c).After-has in search rules
 
 pub bounds-self-block : goal.bounds-self-block
 bounds-self-block c = inside (goal.at.bounds-self-block c).After-has
