@@ -1,6 +1,6 @@
 use Rattle.std.proofs.Common.{◌≡◌, ◌/◌, ◌%◌, ◌<◌, sym, refl, ◌∙◌, subst, ap₂, arith}
 use Rattle.std.proofs.lemmas.Nat.{div_below}
-use Rattle.std.proofs.lemmas.Bool.{not-false}
+use Rattle.std.proofs.lemmas.Bool.{eqb-true, not-false}
 use Rattle.rules.specs.Local.{the_rule}
 use Rattle.pairs.specs.Pairs.{widened, first_window, second_window}
 use Rattle.rules.specs.Rules.{blocks_of}
@@ -37,6 +37,6 @@ second c = c.widen-second.ensures.is ∙ ap₂ (λ b k. widened (the_rule c.args
 
 pub returns : goal.returns
 returns c =
-    let (x, (same, _), is) = c.if-ne.ensures in
+    let same = eqb-true c.cell.result.0 c.cell-2.result.0 (not-false _ (sym c.if-ne.ensures)) in
     let at = (goal.at.returns c).After-widen-second in
-    neighbour_found (the_rule c.args.rule) c.args.direction c.args.pair c.args.edge (first at) (second at) c.cell.ensures c.cell-2.ensures (same (not-false x (sym is))) c.leave.ensures.is c.leave-2.ensures.is c.leave.ensures.inside c.leave-2.ensures.inside c.blocks-blocks.ensures
+    neighbour_found (the_rule c.args.rule) c.args.direction c.args.pair c.args.edge (first at) (second at) c.cell.ensures c.cell-2.ensures same c.leave.ensures.is c.leave-2.ensures.is c.leave.ensures.inside c.leave-2.ensures.inside c.blocks-blocks.ensures

@@ -3,4 +3,4 @@ use Rattle.ring.proofs.Turns.{Turned}
 use Rattle.ring.proofs.steps.Given as goal
 
 abbrev pub invariant-loop-two : goal.invariant-loop-two
-invariant-loop-two l = Turned (the_rule l.rule) l.place l.-two l.initial.row l.initial.spare l.row l.spare
+invariant-loop-two l = Turned (the_rule l.rule) l.place l._two l.initial.row l.initial.spare l.row l.spare

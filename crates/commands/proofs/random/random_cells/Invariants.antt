@@ -3,4 +3,4 @@ use Rattle.commands.proofs.Draws.{Drawn}
 use Rattle.commands.proofs.random.random_cells.Given as goal
 
 abbrev pub invariant-loop-i : goal.invariant-loop-i
-invariant-loop-i l = Drawn l.kinds l.cells l.seed (vec_items l.row) l.-i l.random.0
+invariant-loop-i l = Drawn l.kinds l.cells l.seed (vec_items l.row) l._i l.random.0

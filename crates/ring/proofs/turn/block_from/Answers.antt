@@ -9,7 +9,7 @@ loop-i-init c = block_none c.args.rule.kinds c.args.from.now c.args.first c.requ
 pub push-block-requires : goal.push-block-requires
 push-block-requires c =
     let k = c.args.rule.kinds in
-    let most : k ^ (c.loop-i.-i + 1) ≤ k ^ c.args.rule.wide = pow-le-pow_right (omega (arith, c.args.rule.two)) (omega arith) in
+    let most : k ^ (c.loop-i._i + 1) ≤ k ^ c.args.rule.wide = pow-le-pow_right (omega (arith, c.args.rule.two)) (omega arith) in
     omega (arith, window_lt (omega arith) c.loop-i.invariant c.requires.cells, ap (λ n. c.loop-i.block.0 * n) c.kinds.ensures, c.args.rule.full)
 
 pub loop-i-preserved : goal.loop-i-preserved

@@ -7,4 +7,4 @@ pub invariant_of-result : goal.invariant_of-result
 invariant_of-result c =
     let k = c.args.kinds in
     let s = subst (λ t. Sound (rule_of k c.args.wide t)) c.as_slice.ensures.value c.in_ok-check_rule.ensures.says.0 in
-    (s.kinds, (s.wide, (s.small, (s.full, (λ i h. All-get_or (λ x. x < k) (vec_items c.args.table) i 0 h s.cells, tt)))))
+    record { two = s.kinds; some = s.wide; few = s.small; full = s.full; each = λ i h. All-get_or (λ x. x < k) (vec_items c.args.table) i 0 h s.cells }
