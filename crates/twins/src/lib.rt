@@ -42,10 +42,10 @@ pub fn write_twins(
     work: &mut [u32],
 ) -> Lengths
     requires sound { Sound (the_rule rule) }
-    requires depths { (Depths (the_rule rule) Past pasts.now) × (Lasting (the_rule rule) pasts.now pair) }
-    requires depths_2 { (Depths (the_rule rule) Future futures.now) × (Lasting (the_rule rule) futures.now pair) }
+    requires pasts { (Depths (the_rule rule) Past pasts.now) × (Lasting (the_rule rule) pasts.now pair) }
+    requires futures { (Depths (the_rule rule) Future futures.now) × (Lasting (the_rule rule) futures.now pair) }
     requires unlike { Unlike (the_rule rule) pair }
-    requires in_bounds { (4096 ≤ length out.old) × (2 * (pairs_of (the_rule rule) + rule.wide) ≤ length work.old) }
+    requires room { (4096 ≤ length out.old) × (2 * (pairs_of (the_rule rule) + rule.wide) ≤ length work.old) }
     ensures twins { TwinsWritten (the_rule rule.entry) out.old out.new result }
     ensures rest { drop (2 * (pairs_of (the_rule rule.entry) + rule.entry.wide)) work.new ≡ drop (2 * (pairs_of (the_rule rule.entry) + rule.entry.wide)) work.old }
 {
@@ -60,8 +60,8 @@ pub fn write_twins(
 // Writes twins along a path back and a path on from one pair.
 fn write_along(rule: LocalRule, back: &[u32], on: &[u32], out: &mut [u32]) -> Lengths
     requires sound { (Sound (the_rule rule)) × (4096 ≤ length out.old) }
-    requires path { (Path (the_rule rule) Past (slice_index back.now 0) back.now) × (length back.now ≡ pairs_of (the_rule rule) + rule.wide) }
-    requires path_2 { (Path (the_rule rule) Future (slice_index back.now 0) on.now) × (length on.now ≡ pairs_of (the_rule rule) + rule.wide) }
+    requires back { (Path (the_rule rule) Past (slice_index back.now 0) back.now) × (length back.now ≡ pairs_of (the_rule rule) + rule.wide) }
+    requires on { (Path (the_rule rule) Future (slice_index back.now 0) on.now) × (length on.now ≡ pairs_of (the_rule rule) + rule.wide) }
     requires unlike { Unlike (the_rule rule) (slice_index back.now 0) }
     ensures { TwinsWritten (the_rule rule.entry) out.old out.new result }
 {

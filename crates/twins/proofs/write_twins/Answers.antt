@@ -14,12 +14,13 @@ pub write_along-requires : goal.write_along-requires
 write_along-requires c =
     let r = the_rule c.args.rule in
     let from = sym c.walk.ensures.from in
-    let is = steps (goal.at.write_along-requires c).After-wide in (
-      (c.requires.0, c.requires.4.0),
-      (subst (λ x. Path r Past x c.walk.new.path) from c.walk.ensures, omega arith),
-      (subst (λ x. Path r Future x c.walk-2.new.path) from c.walk-2.ensures, omega (arith, c.walk-2.auto.path, c.split_at_mut-back.ensures.back_len, length-take (2 * (c.blocks-2.result * c.blocks-3.result + c.wide.result)) c.args.work.now, c.requires.4.1)),
-      subst (Unlike r) from c.requires.3,
-    )
+    let is = steps (goal.at.write_along-requires c).After-wide in
+    record {
+      sound = (c.requires.sound, c.requires.room.0);
+      back = (subst (λ x. Path r Past x c.walk.new.path) from c.walk.ensures, omega arith);
+      on = (subst (λ x. Path r Future x c.walk-2.new.path) from c.walk-2.ensures, omega (arith, c.walk-2.auto.path, c.split_at_mut-back.ensures.back_len, length-take (2 * (c.blocks-2.result * c.blocks-3.result + c.wide.result)) c.args.work.now, c.requires.room.1));
+      unlike = subst (Unlike r) from c.requires.unlike;
+    }
 
 pub returns : goal.returns
 returns c =
