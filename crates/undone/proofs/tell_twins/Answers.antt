@@ -34,10 +34,11 @@ write_twins-lengths-requires c =
     let split = c.split_at_mut-graph.ensures in
     let two = halves c.args.work.now c.split_at_mut-graph.result.0.now c.split_at_mut-graph.result.1.now (pairs_of r) split.value (omega (arith, split.front_len)) in
     let pasts = subst (Depths r Past) (two.0 ∙ ap (λ l. take l c.split_at_mut-graph.result.0.now) (sym n) ∙ sym c.split_at.ensures.front) c.requires.graph.0 in
-    let futures = subst (Depths r Future) (two.1 ∙ ap (λ l. drop l c.split_at_mut-graph.result.0.now) (sym n) ∙ sym c.split_at.ensures.back) c.requires.graph.1 in (
-      c.requires.sound,
-      (pasts, lasting r Past _ _ pasts x.inside x.past),
-      (futures, lasting r Future _ _ futures x.inside x.future),
-      x.apart,
-      (c.if-out-lt-ROWS.false, omega (arith, pairs_le r c.requires.sound, wide_le r c.requires.sound, split.back_len, c.requires.room)),
-    )
+    let futures = subst (Depths r Future) (two.1 ∙ ap (λ l. drop l c.split_at_mut-graph.result.0.now) (sym n) ∙ sym c.split_at.ensures.back) c.requires.graph.1 in
+    record {
+      sound = c.requires.sound;
+      pasts = (pasts, lasting r Past _ _ pasts x.inside x.past);
+      futures = (futures, lasting r Future _ _ futures x.inside x.future);
+      unlike = x.apart;
+      room = (c.if-out-lt-ROWS.false, omega (arith, pairs_le r c.requires.sound, wide_le r c.requires.sound, split.back_len, c.requires.room));
+    }
