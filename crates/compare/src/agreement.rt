@@ -1,7 +1,7 @@
 // What `decide` says of a rule beside the second opinion.
+use crate::compared::Rule;
+use crate::endless_rows::are_twins;
 use crate::opinion::Opinion;
-use crate::rules::Rule;
-use crate::twins::are_twins;
 use std::alloc::{AllocError, Global};
 use undone::Decided;
 

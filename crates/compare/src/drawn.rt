@@ -1,8 +1,8 @@
 // Rules at random, half of them of forms that seldom have an orphan.
 ghost use Rattle.std.specs.Prelude.{◌<◌};
 
+use crate::compared::Rule;
 use crate::digits::cells_of;
-use crate::rules::Rule;
 use commands::random::Random;
 use std::alloc::{AllocError, Global};
 

@@ -3,23 +3,23 @@
 // Decides many rules and compares each answer with a second opinion, which shares no code with the decision. It is proved that
 // this ends and is safe; what it finds is only tested, which is its point.
 mod agreement;
+mod compared;
 mod digits;
 mod drawn;
+mod endless_rows;
 mod nexts;
 mod opinion;
-mod orphans;
+mod orphan;
 mod rounds;
-mod rules;
 mod tally;
 mod told;
-mod twins;
 mod ways;
 
 use agreement::{Outcome, compare_answer};
+use compared::{Rule, all_of_two_kinds, worked_rules};
 use drawn::drawn_rules;
 use nexts::Room;
 use opinion::{Opinion, form_opinion};
-use rules::{Rule, all_of_two_kinds, worked_rules};
 use std::alloc::{AllocError, Global};
 use std::io;
 use tally::Tally;

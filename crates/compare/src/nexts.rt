@@ -1,7 +1,7 @@
 // The next rows of all pieces of one length, by the pieces' numbers.
 ghost use Rattle.std.specs.Prelude.{◌<◌};
 
-use crate::rules::Rule;
+use crate::compared::Rule;
 use std::alloc::{AllocError, Global};
 use std::mem;
 

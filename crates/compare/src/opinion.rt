@@ -1,9 +1,9 @@
 // The second opinion of a rule: what is found by going through all pieces and all rows on rings, up to small lengths.
+use crate::compared::Rule;
 use crate::digits::Cells;
 use crate::nexts::{Pieces, Room};
-use crate::orphans::find_orphan;
+use crate::orphan::find_orphan;
 use crate::rounds::{Rounds, find_rounds};
-use crate::rules::Rule;
 use crate::ways::{WayBack, find_way_back};
 use std::alloc::{AllocError, Global};
 use std::fmt;

@@ -1,6 +1,6 @@
 // Two rows that are told to have the same next row: they are run, with some copies of their ends.
+use crate::compared::Rule;
 use crate::digits::number_of;
-use crate::rules::Rule;
 use std::alloc::{AllocError, Global};
 
 // A row: the left part repeated endlessly, the middle, and the right part repeated endlessly.
