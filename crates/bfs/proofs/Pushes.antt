@@ -1,12 +1,12 @@
 -- A push: the queue stays what the search needs, with one state and one word more.
-use Rattle.std.proofs.Common.{◌≡◌, ℕ, ◌+◌, ◌*◌, ◌<◌, ◌≤◌, cond, ltb, List, [], ◌∷◌, ◌++◌, length, get_or, set, sym, ap, ◌∙◌, subst, ap₂, inl, inr, ⊎_elim, arith, below_more}
+use Rattle.std.proofs.Common.{◌≡◌, ℕ, ◌+◌, ◌*◌, ◌<◌, ◌≤◌, cond, ltb, List, [], ◌∷◌, ◌++◌, length, get_or, set, count_by, sym, refl, ap, ◌∙◌, subst, ap₂, ⊎_elim, arith, below_more}
 use Rattle.std.proofs.ByRecursion.{All-push}
 use Rattle.std.proofs.lemmas.List.{length-set, get_or-set_same, get_or-set_other}
-use Rattle.std.proofs.lemmas.Bool.{lt-ltb, le-ltb}
+use Rattle.std.proofs.lemmas.List.Sums.{sum_by-set, count_by-le-length}
+use Rattle.std.proofs.lemmas.Bool.{cases_eq, lt-ltb, le-ltb}
 use Rattle.bfs.specs.declared.queue.Queue.{Queue}
 use Rattle.bfs.specs.Words.{run, Over}
-use Rattle.bfs.specs.Search.{state_at, parent_at, symbol_at, FoundIn, rank, Room, Pushed, Spelled, Holds, Met, Reached, Searched}
-use Rattle.bfs.proofs.Pigeonhole.{fewer_from_apart}
+use Rattle.bfs.specs.Search.{state_at, parent_at, symbol_at, mark_of, rank, Room, Pushed, Spelled, Holds, Met, Reached, Searched}
 use Rattle.bfs.proofs.Ranks.{rank_push, run_push}
 
 -- a list after one write
@@ -39,19 +39,23 @@ room_pushed {q = q} {v} {p} {c} room pushed =
       states_long = long_after q.states.now q.tail v pushed.states ∙ room.states_long;
       parents_long = long_after q.parents.now q.tail p pushed.parents ∙ room.parents_long;
       symbols_long = long_after q.symbols.now q.tail c pushed.symbols ∙ room.symbols_long;
-      found_long = pushed.found_long ∙ room.found_long;
+      places_long = long_after q.places.now v (q.tail + 1) pushed.places ∙ room.places_long;
     }
 
+-- a count of the states that are found, with one more
+pub count_more : (xs xs' : List ℕ) (v t : ℕ) → xs' ≡ set xs v (t + 1) → v < length xs → get_or xs v 0 ≡ 0 → count_by (ltb 0) xs' ≡ count_by (ltb 0) xs + 1
+count_more xs xs' v t write inside new =
+    let found : ℕ → ℕ = λ p. cond (ltb 0 p) 1 0 in
+    ap (count_by (ltb 0)) write ∙ omega (arith, sum_by-set found xs v (t + 1) 0 inside, ap found new, ap (λ b. cond {A = ℕ} b 1 0) (lt-ltb 0 (t + 1) (omega arith)))
+
 module _ {n k : ℕ} {leads : ℕ → ℕ → ℕ} {s : ℕ} {q : Queue} {W : ℕ → List ℕ} (h : Holds n k leads s q W) where
-  -- a state that is not found is at no place
-  differs : {v : ℕ} → (FoundIn q v → ⊥) → (j : ℕ) → j < q.tail → state_at q j ≡ v → ⊥
-  differs new j l e = new (subst (FoundIn q) e (h.marked j l))
+  -- while a state is not found, there is room for one more
+  pub tail_lt : {v : ℕ} → v < n → mark_of q v ≡ 0 → q.tail < n
+  tail_lt {v} below new =
+      let xs' = set q.places.now v (0 + 1) in
+      omega (arith, count_by-le-length (ltb 0) xs', count_more q.places.now xs' v 0 refl (omega (arith, h.room.places_long)) new, h.counted, length-set q.places.now v (0 + 1), h.room.places_long)
 
-  -- so while there is one, there is room for one more
-  pub tail_lt : {v : ℕ} → v < n → (FoundIn q v → ⊥) → q.tail < n
-  tail_lt {v} below new = fewer_from_apart n q.tail (state_at q) v below h.inside h.apart (differs new)
-
-module _ {n k : ℕ} {leads : ℕ → ℕ → ℕ} {s : ℕ} {q : Queue} {p c : ℕ} {W : ℕ → List ℕ} {v : ℕ} {q' : Queue} (r : Reached n k leads s q p c W) (here : p < q.tail) (known : c < k) (is : v ≡ leads (state_at q p) c) (below : v < n) (new : FoundIn q v → ⊥) (pushed : Pushed q v p c q') where
+module _ {n k : ℕ} {leads : ℕ → ℕ → ℕ} {s : ℕ} {q : Queue} {p c : ℕ} {W : ℕ → List ℕ} {v : ℕ} {q' : Queue} (r : Reached n k leads s q p c W) (here : p < q.tail) (known : c < k) (is : v ≡ leads (state_at q p) c) (below : v < n) (new : mark_of q v ≡ 0) (pushed : Pushed q v p c q') where
   h : Holds n k leads s q W
   h = r.holds
 
@@ -82,8 +86,11 @@ module _ {n k : ℕ} {leads : ℕ → ℕ → ℕ} {s : ℕ} {q : Queue} {p c : 
   state_last : state_at q' q.tail ≡ v
   state_last = at-written q.states.now q.tail v pushed.states (omega (arith, tail_lt h below new, h.room.states_long))
 
-  found_old : (u : ℕ) → FoundIn q u → FoundIn q' u
-  found_old u known = (pushed.found u).1 (inl known)
+  place_old : (u i : ℕ) → mark_of q u ≡ i + 1 → mark_of q' u ≡ i + 1
+  place_old u i at = at_other q.places.now v (q.tail + 1) pushed.places u (λ e. omega (arith, new, at, ap (mark_of q) e)) ∙ at
+
+  place_last : mark_of q' v ≡ q.tail + 1
+  place_last = at-written q.places.now v (q.tail + 1) pushed.places (omega (arith, h.room.places_long))
 
   spelled_push : Spelled W' q'
   spelled_push =
@@ -130,27 +137,28 @@ module _ {n k : ℕ} {leads : ℕ → ℕ → ℕ} {s : ℕ} {q : Queue} {p c : 
             (λ less. omega (arith, rank_old i less, rank_last, r.next i less here))
             j l less;
         marked =
-            each (λ j. FoundIn q' (state_at q' j))
-            (λ j l. subst (FoundIn q') (sym (state_old j l)) (found_old (state_at q j) (h.marked j l)))
-            ((pushed.found (state_at q' q.tail)).1 (inr state_last));
+            each (λ j. mark_of q' (state_at q' j) ≡ j + 1)
+            (λ j l. ap (mark_of q') (state_old j l) ∙ place_old (state_at q j) j (h.marked j l))
+            (ap (mark_of q') state_last ∙ place_last);
         placed = placed';
-        apart =
-            λ i j less l. each (λ j. i < j → state_at q' i ≡ state_at q' j → ⊥)
-            (λ j l less same. h.apart i j less l (sym (state_old i (omega arith)) ∙ same ∙ state_old j l))
-            (λ less same. differs h new i less (sym (state_old i less) ∙ same ∙ state_last))
-            j l less;
+        counted = count_more q.places.now q'.places.now v q.tail pushed.places (omega (arith, h.room.places_long)) new ∙ omega (arith, h.counted, pushed.tail);
       }
     where
-      placed' : (u : ℕ) → FoundIn q' u → (i : ℕ) × (i < q'.tail) × (state_at q' i ≡ u)
-      placed' u known =
+      placed' : (u i : ℕ) → mark_of q' u ≡ i + 1 → (i < q'.tail) × (state_at q' i ≡ u)
+      placed' u i at =
           ⊎_elim
-          (λ before. let was = h.placed u before in (was.0, omega (arith, was.1, pushed.tail), state_old was.0 was.1 ∙ was.2))
-          (λ e. (q.tail, omega (arith, pushed.tail), state_last ∙ sym e))
-          ((pushed.found u).0 known)
+          (λ e.
+          let last-place : i ≡ q.tail = omega (arith, place_last, ap (mark_of q') e) in
+          (omega (arith, pushed.tail), ap (state_at q') last-place ∙ state_last ∙ sym e))
+          (λ other.
+          let was = h.placed u i (sym (at_other q.places.now v (q.tail + 1) pushed.places u other) ∙ at) in
+          (omega (arith, pushed.tail), state_old i was.0 ∙ was.1))
+          (cases_eq u v)
 
   met_push : (i d : ℕ) → i < q.tail → Met k leads q W i d → Met k leads q' W' i d
-  met_push i d l (j, m, at, le) =
-      (j, omega (arith, pushed.tail), state_old j m ∙ at ∙ ap (λ x. leads x d) (sym (state_old i l)), omega (arith, rank_old j m, ap (λ x. x * k) (rank_old i l)))
+  met_push i d l (j, at, le) =
+      let u = leads (state_at q i) d in
+      (j, ap (λ x. mark_of q' (leads x d)) (state_old i l) ∙ place_old u j at, omega (arith, rank_old j (h.placed u j at).0, ap (λ x. x * k) (rank_old i l)))
 
   reached_push : Reached n k leads s q' p (c + 1) W'
   reached_push =
@@ -161,7 +169,7 @@ module _ {n k : ℕ} {leads : ℕ → ℕ → ℕ} {s : ℕ} {q : Queue} {p c : 
         begun =
             below_more (Met k leads q' W' p) c
             (λ d l. met_push p d here (r.begun d l))
-            (q.tail, omega (arith, pushed.tail), state_last ∙ is ∙ ap (λ u. leads u c) (sym (state_old p here)), omega (arith, rank_last));
+            (q.tail, ap (mark_of q') (ap (λ u. leads u c) (state_old p here) ∙ sym is) ∙ place_last, omega (arith, rank_last));
         next = λ j l m. each (λ j. rank k 0 (W' j) ≤ rank k 0 (W' p) * k + (c + 1)) (λ j l. omega (arith, r.next j l here, rank_old j l)) (omega (arith, rank_last)) j l;
       }
 

@@ -1,9 +1,18 @@
 -- The steps of the search: it begins with its start, and expands one place after another.
-use Rattle.std.proofs.Common.{◌≡◌, ℕ, suc, ◌+◌, ◌-◌, ◌<◌, [], sym, refl, ap, ◌∙◌, inr, ⊎_elim, mul-le-mul_right, suc-mul, arith, below_more}
+use Rattle.std.proofs.Common.{◌≡◌, ℕ, zero, suc, ◌+◌, ◌<◌, true, false, ltb, [], get_or, replicate, is_some, Some, None, count_by, Option, sym, refl, ap, ◌∙◌, ⊎_elim, mul-le-mul_right, suc-mul, arith, below_more, MatchOption}
+use Rattle.std.proofs.lemmas.Bool.{cases_eq, true≢false, false≢true}
 use Rattle.bfs.specs.declared.queue.Queue.{Queue}
-use Rattle.bfs.specs.Search.{state_at, FoundIn, rank, Room, Empty, Takes, Pushed, Met, Searched, FirstAt}
-use Rattle.bfs.proofs.Ends.{first_from_found}
-use Rattle.bfs.proofs.Pushes.{at-written, at_other, room_pushed, tail_lt, searched_push}
+use Rattle.bfs.specs.Search.{state_at, mark_of, rank, Room, Empty, Takes, Pushed, PlaceOf, Met, Searched}
+use Rattle.bfs.proofs.Pushes.{at-written, at_other, room_pushed, count_more, tail_lt, searched_push}
+
+zero_at : (n u : ℕ) → ◌≡◌ {A = ℕ} (get_or (replicate n 0) u 0) 0
+zero_at zero u = refl
+zero_at (suc n) zero = refl
+zero_at (suc n) (suc u) = zero_at n u
+
+count_zeros : (n : ℕ) → count_by (ltb 0) (replicate n 0) ≡ 0
+count_zeros zero = refl
+count_zeros (suc n) = count_zeros n
 
 -- a search begins with its start, by the word of no symbols
 module _ {n s : ℕ} {q q' : Queue} (empty : Empty n q) (below : s < n) (pushed : Pushed q s 0 0 q') where
@@ -13,10 +22,20 @@ module _ {n s : ℕ} {q q' : Queue} (empty : Empty n q) (below : s < n) (pushed 
   start-at : (j : ℕ) → j < q'.tail → state_at q' j ≡ s
   start-at j l = ap (state_at q') {y = q.tail} (omega (arith, pushed.tail)) ∙ at-written q.states.now q.tail s pushed.states (omega (arith, room.states_long))
 
-  start_placed : (u : ℕ) → FoundIn q' u → (i : ℕ) × (i < q'.tail) × (state_at q' i ≡ u)
-  start_placed u known =
-      let first : 0 < q'.tail = omega (arith, pushed.tail) in
-      ⊎_elim (λ before. absurd (empty.clear u before)) (λ e. (0, first, start-at 0 first ∙ sym e)) ((pushed.found u).0 known)
+  start_place : mark_of q' s ≡ q.tail + 1
+  start_place = at-written q.places.now s (q.tail + 1) pushed.places (omega (arith, room.places_long))
+
+  none_placed : (u : ℕ) → mark_of q u ≡ 0
+  none_placed u = ap (λ l. get_or l u 0) empty.clear ∙ zero_at n u
+
+  start_placed : (u i : ℕ) → mark_of q' u ≡ i + 1 → (i < q'.tail) × (state_at q' i ≡ u)
+  start_placed u i at =
+      ⊎_elim
+      (λ e.
+      let first : i < q'.tail = omega (arith, start_place, pushed.tail, ap (mark_of q') e) in
+      (first, start-at i first ∙ sym e))
+      (λ other. absurd (omega (arith, at_other q.places.now s (q.tail + 1) pushed.places u other, none_placed u)))
+      (cases_eq u s)
 
   pub searched_start : {k : ℕ} {leads : ℕ → ℕ → ℕ} → Searched n k leads s q' 0 0
   searched_start = (
@@ -31,9 +50,9 @@ module _ {n s : ℕ} {q q' : Queue} (empty : Empty n q) (below : s < n) (pushed 
             over = λ j l. tt;
             runs = λ j l. sym (start-at j l);
             rises = λ i j less l. absurd (omega (arith, pushed.tail));
-            marked = λ j l. (pushed.found (state_at q' j)).1 (inr (start-at j l));
+            marked = λ j l. ap (mark_of q') (start-at j l) ∙ start_place ∙ omega (arith, pushed.tail);
             placed = start_placed;
-            apart = λ i j less l. absurd (omega (arith, pushed.tail));
+            counted = count_more q.places.now q'.places.now s q.tail pushed.places (omega (arith, room.places_long)) (none_placed s) ∙ omega (arith, ap (count_by (ltb 0)) empty.clear, count_zeros n, pushed.tail);
           };
       expanded = λ i d l m. absurd (omega arith);
       begun = λ d l. absurd (omega arith);
@@ -41,71 +60,53 @@ module _ {n s : ℕ} {q q' : Queue} (empty : Empty n q) (below : s < n) (pushed 
     },
   )
 
-  -- the start is the target: its word is the first
-  pub first_from_start : {k : ℕ} {leads : ℕ → ℕ → ℕ} {t : ℕ} → s ≡ t → FirstAt k leads s t q' 0
-  first_from_start hit =
-      let first : 0 < q'.tail = omega (arith, pushed.tail) in
-      first_from_found searched_start (omega arith) 0 first (start-at 0 first ∙ hit)
+-- a look-up that finds no place, and one that finds some
+pub at_none : {x : ℕ} (o : Option ℕ) → MatchOption o (x ≡ 0) (λ i. x ≡ i + 1) → is_some o ≡ false → x ≡ 0
+at_none None none e = none
+at_none (Some i) some e = absurd (true≢false e)
 
-  -- or another state is to be found
-  pub ahead_of_start : {t : ℕ} → (s ≡ t → ⊥) → FoundIn q' t → ⊥
-  ahead_of_start {t} other known = ⊎_elim (empty.clear t) (λ e. other (sym e)) ((pushed.found t).0 known)
+pub at_some : {x : ℕ} (o : Option ℕ) → MatchOption o (x ≡ 0) (λ i. x ≡ i + 1) → is_some o ≡ true → (i : ℕ) × (x ≡ i + 1)
+at_some None none e = absurd (false≢true e)
+at_some (Some i) some e = (i, some)
 
--- the place p, which holds the state v, is being expanded, the symbols below c were followed, and t is not found
-pub record Expanding (n k : ℕ) (leads : ℕ → ℕ → ℕ) (s t : ℕ) (q : Queue) (p v c : ℕ) : Type 0 where
+-- the place p, which holds the state v, is being expanded, and the symbols below c were followed
+pub record Expanding (n k : ℕ) (leads : ℕ → ℕ → ℕ) (s : ℕ) (q : Queue) (p v c : ℕ) : Type 0 where
   pub searched : Searched n k leads s q p c
   pub here : p < q.tail
   pub state : state_at q p ≡ v
-  pub ahead : FoundIn q t → ⊥
 
-module _ {n k : ℕ} {leads : ℕ → ℕ → ℕ} {s t : ℕ} {q : Queue} {p v c : ℕ} (e : Expanding n k leads s t q p v c) where
-  pub takes_new : {u : ℕ} → u < n → (FoundIn q u → ⊥) → Takes q u
-  takes_new below new =
+module _ {n k : ℕ} {leads : ℕ → ℕ → ℕ} {s : ℕ} {q : Queue} {p v c : ℕ} (e : Expanding n k leads s q p v c) where
+  pub takes_new : {u : ℕ} → u < n → (o : Option ℕ) → PlaceOf q u o → is_some o ≡ false → Takes q u
+  takes_new below o place new =
       let h = e.searched.1.holds in
-      (n, h.room, tail_lt h below new, below)
+      (n, h.room, tail_lt h below (at_none o place new), below)
 
   -- a state that is new is pushed
-  module _ {u : ℕ} {q' : Queue} (known : c < k) (is : u ≡ leads v c) (below : u < n) (new : FoundIn q u → ⊥) (pushed : Pushed q u p c q') where
-    searched : Searched n k leads s q' p (c + 1)
-    searched = searched_push e.searched.1 e.here known (is ∙ ap (λ x. leads x c) (sym e.state)) below new pushed
-
-    -- it is the target: its word is the first
-    pub first_from_push : u ≡ t → FirstAt k leads s t q' (q'.tail - 1)
-    first_from_push hit =
-        let free = tail_lt e.searched.1.holds below new in
-        let last : q'.tail - 1 ≡ q.tail = omega (arith, pushed.tail) in
-        first_from_found searched (omega arith) (q'.tail - 1) (omega (arith, pushed.tail))
-        (ap (state_at q') last ∙ at-written q.states.now q.tail u pushed.states (omega (arith, e.searched.1.holds.room.states_long)) ∙ hit)
-
-    -- it is another: the search goes on
-    pub expanding_push : (u ≡ t → ⊥) → Expanding n k leads s t q' p v (c + 1)
-    expanding_push other =
-        record {
-          searched = searched;
-          here = omega (arith, e.here, pushed.tail);
-          state = at_other q.states.now q.tail u pushed.states p (λ same. omega (arith, e.here)) ∙ e.state;
-          ahead = λ now-found. ⊎_elim e.ahead (λ same. other (sym same)) ((pushed.found t).0 now-found);
-        }
+  pub expanding_push : {u : ℕ} {q' : Queue} → c < k → u ≡ leads v c → u < n → mark_of q u ≡ 0 → Pushed q u p c q' → Expanding n k leads s q' p v (c + 1)
+  expanding_push {u} known is below new pushed =
+      record {
+        searched = searched_push e.searched.1 e.here known (is ∙ ap (λ x. leads x c) (sym e.state)) below new pushed;
+        here = omega (arith, e.here, pushed.tail);
+        state = at_other q.states.now q.tail u pushed.states p (λ same. omega (arith, e.here)) ∙ e.state;
+      }
 
   -- one that is found is passed over: no word in the queue is later than the word by this symbol
-  pub expanding_skip : {u : ℕ} → u ≡ leads v c → FoundIn q u → Expanding n k leads s t q p v (c + 1)
-  expanding_skip {u} is known =
+  pub expanding_skip : {u : ℕ} → u ≡ leads v c → (i : ℕ) × (mark_of q u ≡ i + 1) → Expanding n k leads s q p v (c + 1)
+  expanding_skip {u} is (i, at) =
       let W = e.searched.0 in
       let r = e.searched.1 in
-      let at = r.holds.placed u known in
       record {
         searched = (
           W,
           record {
             holds = r.holds;
             expanded = r.expanded;
-            begun = below_more (Met k leads q W p) c r.begun (at.0, at.1, at.2 ∙ is ∙ ap (λ x. leads x c) (sym e.state), omega (arith, r.next at.0 at.1 e.here));
+            begun = below_more (Met k leads q W p) c r.begun (i, ap (mark_of q) (ap (λ x. leads x c) e.state ∙ sym is) ∙ at, omega (arith, r.next i (r.holds.placed u i at).0 e.here));
             next = λ j l m. omega (arith, r.next j l m);
           },
         );
         here = e.here;
         state = e.state;
-        ahead = e.ahead;
       }
 
   -- once each symbol was followed, the next place is taken

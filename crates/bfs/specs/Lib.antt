@@ -1,5 +1,4 @@
 -- Words that an automaton reads, and breadth-first search for the first of them: the definitions that the contracts cite.
-pub mod Sets
 pub mod Words
 pub mod Answer
 pub mod Search

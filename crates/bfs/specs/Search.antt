@@ -1,7 +1,6 @@
 -- The queue of a breadth-first search, in lent words: what it holds on the way.
-use Rattle.std.specs.Prelude.{◌≡◌, ℕ, ◌+◌, ◌*◌, ◌/◌, ◌^◌, ◌<◌, ◌≤◌, ◌⊎◌, ◌↔◌, List, [], ◌∷◌, ◌++◌, length, ◌≢◌, slice_index, slice_set}
+use Rattle.std.specs.Prelude.{◌≡◌, ℕ, ◌+◌, ◌*◌, ◌^◌, ◌<◌, ◌≤◌, List, [], ◌∷◌, ◌++◌, length, replicate, count_by, Option, MatchOption, nat_lt, slice_index, slice_set}
 use Rattle.bfs.specs.declared.queue.Queue.{Queue}
-use Rattle.bfs.specs.Sets.{InWords}
 use Rattle.bfs.specs.Words.{run, Over, FirstWord}
 
 -- the state at a place, the place of its parent, and the symbol that led from there
@@ -14,9 +13,9 @@ parent_at q p = slice_index q.parents.now p
 abbrev pub symbol_at : Queue → ℕ → ℕ
 symbol_at q p = slice_index q.symbols.now p
 
--- the state v is found
-abbrev pub FoundIn : Queue → ℕ → Type 0
-FoundIn q v = InWords v q.found.now
+-- one more than the place of a state, or 0 while it has none
+abbrev pub mark_of : Queue → ℕ → ℕ
+mark_of q v = slice_index q.places.now v
 
 -- the queue has room for n states, and a word can hold each place
 pub record Room (n : ℕ) (q : Queue) : Type 0 where
@@ -24,13 +23,13 @@ pub record Room (n : ℕ) (q : Queue) : Type 0 where
   pub states_long : length q.states.now ≡ n
   pub parents_long : length q.parents.now ≡ n
   pub symbols_long : length q.symbols.now ≡ n
-  pub found_long : length q.found.now ≡ (n + 31) / 32
+  pub places_long : length q.places.now ≡ n
 
--- the queue has room for n states, and none is found yet
+-- the queue has room for n states, and none has a place yet
 pub record Empty (n : ℕ) (q : Queue) : Type 0 where
   pub room : Room n q
   pub none : q.tail ≡ 0
-  pub clear : (v : ℕ) → FoundIn q v → ⊥
+  pub clear : q.places.now ≡ replicate n 0
 
 -- the state v can be pushed
 abbrev pub Takes : Queue → ℕ → Type 0
@@ -41,9 +40,12 @@ pub record Pushed (q : Queue) (v p c : ℕ) (q' : Queue) : Type 0 where
   pub states : q'.states.now ≡ slice_set q.states.now q.tail v
   pub parents : q'.parents.now ≡ slice_set q.parents.now q.tail p
   pub symbols : q'.symbols.now ≡ slice_set q.symbols.now q.tail c
-  pub found_long : length q'.found.now ≡ length q.found.now
-  pub found : (u : ℕ) → FoundIn q' u ↔ (FoundIn q u ⊎ (u ≡ v))
+  pub places : q'.places.now ≡ slice_set q.places.now v (q.tail + 1)
   pub tail : q'.tail ≡ q.tail + 1
+
+-- the place of the state v, if it has one
+abbrev pub PlaceOf : Queue → ℕ → Option ℕ → Type 0
+PlaceOf q v o = MatchOption o (mark_of q v ≡ 0) (λ p. mark_of q v ≡ p + 1)
 
 -- the state that the search began with
 abbrev pub origin : Queue → ℕ
@@ -71,7 +73,7 @@ abbrev pub rank : ℕ → ℕ → List ℕ → ℕ
 rank k x [] = x
 rank k x (c ∷ w) = rank k (x * k + c + 1) w
 
--- a search from s has found states, each once, by words in their order
+-- a search from s has found states, each once, by words in their order, and as many states have a place
 pub record Holds (n k : ℕ) (leads : ℕ → ℕ → ℕ) (s : ℕ) (q : Queue) (W : ℕ → List ℕ) : Type 0 where
   pub room : Room n q
   pub some : 0 < q.tail
@@ -80,13 +82,13 @@ pub record Holds (n k : ℕ) (leads : ℕ → ℕ → ℕ) (s : ℕ) (q : Queue)
   pub over : (j : ℕ) → j < q.tail → Over k (W j)
   pub runs : (j : ℕ) → j < q.tail → run leads s (W j) ≡ state_at q j
   pub rises : (i j : ℕ) → i < j → j < q.tail → rank k 0 (W i) < rank k 0 (W j)
-  pub marked : (j : ℕ) → j < q.tail → FoundIn q (state_at q j)
-  pub placed : (v : ℕ) → FoundIn q v → (p : ℕ) × (p < q.tail) × (state_at q p ≡ v)
-  pub apart : (i j : ℕ) → i < j → j < q.tail → state_at q i ≢ state_at q j
+  pub marked : (j : ℕ) → j < q.tail → mark_of q (state_at q j) ≡ j + 1
+  pub placed : (v p : ℕ) → mark_of q v ≡ p + 1 → (p < q.tail) × (state_at q p ≡ v)
+  pub counted : count_by (nat_lt 0) q.places.now ≡ q.tail
 
 -- the state that the symbol d leads to from the place i is found, by a word no later than the one by that place
 abbrev pub Met : ℕ → (ℕ → ℕ → ℕ) → Queue → (ℕ → List ℕ) → ℕ → ℕ → Type 0
-Met k leads q W i d = (p : ℕ) × (p < q.tail) × (state_at q p ≡ leads (state_at q i) d) × (rank k 0 (W p) ≤ rank k 0 (W i) * k + d + 1)
+Met k leads q W i d = (p : ℕ) × (mark_of q (leads (state_at q i) d) ≡ p + 1) × (rank k 0 (W p) ≤ rank k 0 (W i) * k + d + 1)
 
 -- how far the search is: the places before p are expanded, and p by the symbols below c; no word that is found comes after
 -- the next one, by the symbol c from the place p

@@ -4,7 +4,7 @@
 ghost use Rattle.std.specs.Prelude.{◌≡◌, ℕ, ◌+◌, ◌*◌, ◌<◌, ◌≤◌, length, take, drop, MatchOption};
 ghost use Rattle.bfs.specs.Words.{NoWord};
 ghost use Rattle.bfs.specs.Answer.{Says};
-ghost use Rattle.bfs.specs.Search.{Empty, FoundIn, origin, Searched, FirstAt};
+ghost use Rattle.bfs.specs.Search.{Empty, origin, Searched, FirstAt};
 
 mod queue;
 #[cfg(test)]
@@ -83,38 +83,26 @@ fn search<A: Automaton>(automaton: &A, start: u32, target: u32, queue: &mut Queu
         (FirstAt (A.Automaton.symbols automaton.now) (A.Automaton.leads automaton.now) start target queue.new) }
 {
     queue.push(start, 0, 0);
-    if start == target {
-        return Some(0);
-    }
     let mut head = 0;
-    while head < queue.tail {
-        if let Some(place) = expand(automaton, head, target, queue) {
-            return Some(place);
-        }
+    while head < queue.tail && queue.place(target).is_none() {
+        expand(automaton, head, queue);
         head += 1;
     }
-    None
+    queue.place(target)
 }
 
-// Pushes each state that is new and that a symbol leads to from the place, until the target is pushed: then its place is the
-// answer. The lowest symbol goes first: so of words as long the one with smaller digits comes first.
-fn expand<A: Automaton>(automaton: &A, place: u32, target: u32, queue: &mut Queue) -> Option<u32>
+// Pushes each state that is new and that a symbol leads to from the place. The lowest symbol goes first: so of words as long
+// the one with smaller digits comes first.
+fn expand<A: Automaton>(automaton: &A, place: u32, queue: &mut Queue)
     requires begun { Searched (A.Automaton.states automaton.now) (A.Automaton.symbols automaton.now) (A.Automaton.leads automaton.now) (origin queue.old) queue.old place 0 }
     requires inside { place < queue.old.tail }
-    requires ahead { FoundIn queue.old target → ⊥ }
-    ensures { MatchOption result
-        (Searched (A.Automaton.states automaton.now) (A.Automaton.symbols automaton.now) (A.Automaton.leads automaton.now) (origin queue.old) queue.new (place + 1) 0 × (FoundIn queue.new target → ⊥))
-        (FirstAt (A.Automaton.symbols automaton.now) (A.Automaton.leads automaton.now) (origin queue.old) target queue.new) }
+    ensures { Searched (A.Automaton.states automaton.now) (A.Automaton.symbols automaton.now) (A.Automaton.leads automaton.now) (origin queue.old) queue.new (place + 1) 0 }
 {
     let state = queue.states[place as usize];
     for symbol in 0..automaton.symbols() {
         let next = automaton.follow(state, symbol);
-        if !queue.has(next) {
+        if queue.place(next).is_none() {
             queue.push(next, place, symbol);
-            if next == target {
-                return Some(queue.tail - 1);
-            }
         }
     }
-    None
 }

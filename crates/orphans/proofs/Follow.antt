@@ -9,9 +9,9 @@ use Rattle.std.proofs.lemmas.Bool.{cases_eq, cases_Bool, and_parts, and_from, co
 use Rattle.rules.specs.declared.local.LocalRule.{LocalRule}
 use Rattle.rules.specs.Local.{the_rule}
 use Rattle.rules.specs.Rules.{Rule, blocks_of}
-use Rattle.bfs.specs.Sets.{In}
+use Rattle.orphans.specs.Sets.{In}
 use Rattle.orphans.specs.Subsets.{Follows, Masks, follow_by, follow_below, follow}
-use Rattle.bfs.proofs.BitSets.{in_empty, in_one, in_or, same_from_members, with_from_members}
+use Rattle.orphans.proofs.BitSets.{in_empty, in_one, in_or, same_from_members, with_from_members}
 use Rattle.rules.proofs.Tables.{pow_pred}
 
 -- the window w leads from a block of the set s to block j, and its cell is c

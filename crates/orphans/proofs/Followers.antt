@@ -5,9 +5,9 @@ use lib.Bits.{bit_or, or_shifted_r}
 use Rattle.std.proofs.lemmas.Nat.{div-add-mod', div_below, div-mul-add, mod-mul-add, mul-add-lt, shl_below}
 use Rattle.std.proofs.lemmas.Bool.{cases_lt}
 use Rattle.rules.specs.Rules.{Rule}
-use Rattle.bfs.specs.Sets.{In}
+use Rattle.orphans.specs.Sets.{In}
 use Rattle.orphans.specs.Subsets.{Followers, follow}
-use Rattle.bfs.proofs.BitSets.{in_empty, in_or, same_from_members, empty_from_members}
+use Rattle.orphans.proofs.BitSets.{in_empty, in_or, same_from_members, empty_from_members}
 use Rattle.orphans.proofs.Follow.{in_follow}
 
 module _ (r : Rule) where

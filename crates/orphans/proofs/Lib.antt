@@ -1,3 +1,4 @@
+pub mod BitSets
 pub mod Follow
 pub mod Followers
 pub mod Reached

@@ -6,14 +6,14 @@ use Rattle.std.proofs.ByRecursion.{All-take, All-drop}
 use Rattle.std.proofs.lemmas.List.{nil_from_length}
 use Rattle.rules.specs.Rules.{Rule, Formed, Piece, digits, at, next, blocks_of}
 use Rattle.theory.specs.Says.{FromNothing}
-use Rattle.bfs.specs.Sets.{In}
+use Rattle.orphans.specs.Sets.{In}
 use Rattle.orphans.specs.Subsets.{Follows, SetsTell, follow, after, reached}
 use Rattle.rules.proofs.Digits.{digits-after, digits_lt, digits_more, same_from_digits, piece_of}
 use Rattle.rules.proofs.Next.{get_or_kind, length-next, next-cons}
 use Rattle.rules.proofs.Tables.{pow_pred}
 use Rattle.theory.proofs.Preimages.{Comes}
 use Rattle.theory.proofs.Endings.{Ends}
-use Rattle.bfs.proofs.BitSets.{in_below, in_empty, in_full, empty_from_members}
+use Rattle.orphans.proofs.BitSets.{in_below, in_empty, in_full, empty_from_members}
 use Rattle.orphans.proofs.Follow.{in_follow, follow_lt, blocks_pos}
 
 -- the number of cells

@@ -3,7 +3,7 @@ use Rattle.std.specs.Prelude.{◌≡◌, ℕ, zero, suc, ◌+◌, ◌-◌, ◌*�
 use Rattle.bfs.specs.Words.{run}
 use Rattle.rules.specs.Rules.{Rule, Piece, digits, next}
 use Rattle.theory.specs.Says.{FromNothing}
-use Rattle.bfs.specs.Sets.{In}
+use Rattle.orphans.specs.Sets.{In}
 
 -- block j follows block i by a window whose cell is c
 pub record Follows (r : Rule) (i c j : ℕ) : Type 0 where

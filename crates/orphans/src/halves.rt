@@ -4,6 +4,7 @@ ghost use Rattle.rules.specs.Local.{the_rule};
 ghost use Rattle.orphans.specs.Subsets.{Followers, Masks, follow};
 
 use crate::sets::BlockSet;
+use bfs::Automaton;
 use rules::cells::Kind;
 use rules::local::LocalRule;
 
@@ -66,6 +67,26 @@ impl<'r, 't> Halves<'r, 't> {
         let low = set.0 as usize % (1 << self.half);
         let high = set.0 as usize >> self.half;
         BlockSet(self.low[low * kinds + kind] | self.high[high * kinds + kind])
+    }
+}
+
+impl Automaton for Halves<'_, '_> {
+    ghost states = { λ s. 2 ^ (s.rule.kinds ^ (s.rule.wide - 1)) };
+
+    ghost symbols = { λ s. s.rule.kinds };
+
+    ghost leads = { λ s. follow (the_rule s.rule) };
+
+    fn states(&self) -> u32 {
+        1 << self.blocks()
+    }
+
+    fn symbols(&self) -> u32 {
+        self.kinds()
+    }
+
+    fn follow(&self, state: u32, symbol: u32) -> u32 {
+        self.step(BlockSet(state), Kind(symbol)).0
     }
 }
 

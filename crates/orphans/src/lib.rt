@@ -13,12 +13,12 @@ pub mod subsets;
 
 use crate::halves::{Halves, write_followers};
 use crate::sets::BlockSet;
-use crate::subsets::write_masks;
+use crate::subsets::{Subsets, write_masks};
 use bfs::{Automaton, Found, shortest_word};
 use rules::cells::Kind;
 use rules::local::LocalRule;
 
-impl Automaton for Halves<'_, '_> {
+impl Automaton for Subsets<'_, '_> {
     ghost states = { λ s. 2 ^ (s.rule.kinds ^ (s.rule.wide - 1)) };
 
     ghost symbols = { λ s. s.rule.kinds };
@@ -39,8 +39,23 @@ impl Automaton for Halves<'_, '_> {
 }
 
 // The shortest piece that comes from none, and of these the first by its digits, first in `out`; or that there is none. The
-// work words are a mask for each window, what follows each set of half of the blocks by each kind, and 4 for each set.
+// work words are a mask for each window, and 4 for each set of blocks.
 pub fn first_orphan(rule: LocalRule, out: &mut [u32], work: &mut [u32]) -> Found
+    requires sound { Sound (the_rule rule) }
+    requires room { rule.kinds ^ rule.wide + 4 * 2 ^ (rule.kinds ^ (rule.wide - 1)) ≤ length work.old }
+    ensures { TellsOrphan (the_rule rule.entry) out.old out.new result }
+{
+    let windows = rule.blocks() * rule.kinds() as usize;
+    let (masks, queue) = work.split_at_mut(windows);
+    write_masks(rule, masks, 0);
+    let sets = Subsets::new(rule, masks);
+    let start = sets.start();
+    shortest_word(&sets, start.0, BlockSet::empty().0, out, queue, 0)
+}
+
+// The same, found faster with more words of work: a mask for each window, what follows each set of half of the blocks by each
+// kind, and 4 for each set.
+pub fn first_orphan_by_halves(rule: LocalRule, out: &mut [u32], work: &mut [u32]) -> Found
     requires sound { Sound (the_rule rule) }
     requires room { words_of (the_rule rule) ≤ length work.old }
     ensures { TellsOrphan (the_rule rule.entry) out.old out.new result }

@@ -1,6 +1,6 @@
 // Sets of blocks.
 ghost use Rattle.std.specs.Prelude.{◌≡◌, ℕ, ◌<◌, ◌≤◌, ◌⊎◌, ◌↔◌, Decides, ◌≢◌};
-ghost use Rattle.bfs.specs.Sets.{In};
+ghost use Rattle.orphans.specs.Sets.{In};
 
 // A set of blocks: the bits of a word, each at the number of its block.
 #[derive(Clone, Copy, PartialEq, Eq, Debug)]

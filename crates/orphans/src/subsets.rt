@@ -2,7 +2,7 @@
 ghost use Rattle.std.specs.Prelude.{◌≡◌, ℕ, ◌+◌, ◌-◌, ◌/◌, ◌%◌, ◌^◌, ◌<◌, ◌≤◌, ◌↔◌, [], length, take, drop, slice_index};
 ghost use Rattle.std.specs.List.{between};
 ghost use Rattle.rules.specs.Local.{the_rule};
-ghost use Rattle.bfs.specs.Sets.{In};
+ghost use Rattle.orphans.specs.Sets.{In};
 ghost use Rattle.orphans.specs.Subsets.{Follows, Masks, SetsTell, follow, reached};
 
 use crate::sets::BlockSet;

@@ -32,7 +32,7 @@ fn there_and_back(rt: HostRuntime) -> Result<(), Fail> {
     write_cells(&mut line, &[0, 9, 10, 15])?;
     assert_eq!(rt; line.as_str(), "09af");
     let cells = parse_cells(rt.alloc(), 16, line.as_str())?;
-    assert_eq!(rt; cells.as_slice(), &[0, 9, 10, 15]);
+    assert_eq!(rt; cells.as_slice(), [0, 9, 10, 15].as_slice());
     Ok(())
 }
 

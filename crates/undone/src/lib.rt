@@ -11,7 +11,7 @@ ghost use Rattle.rules.specs.Rules.{Sound};
 use bfs::Found;
 use inverse::table::write_way_back;
 use inverse::{WayBack, least_way_back};
-use orphans::first_orphan;
+use orphans::first_orphan_by_halves;
 use rules::local::LocalRule;
 use rules::rule::check_rule;
 use twins::write_twins;
@@ -47,7 +47,7 @@ pub fn decide(kinds: u32, wide: u32, table: &[u32], out: &mut [u32], work: &mut 
         return Decided::NoRule;
     };
     let rule = LocalRule::new(kinds, wide, table);
-    match first_orphan(rule, out, work) {
+    match first_orphan_by_halves(rule, out, work) {
         Found::Word(n) => Decided::Orphan(n),
         Found::Long(n) => Decided::OrphanFull(n),
         Found::Nothing => invert(rule, out, work),

@@ -28,9 +28,9 @@ answered : (c : After-new-rule) (o' : List ℕ) (d : Decided) → Answer (the_ru
 answered c o' d answer =
     decided _ _ _ _ _ o' d c.if-work-lt-WORK.false c.in-Ok.ensures.says.0 (subst (λ r. Answer r c.args.out.now o' d) (same c) answer)
 
-pub first_orphan-requires : goal.first_orphan-requires
-first_orphan-requires c =
-    let s = sound (goal.at.first_orphan-requires c).After-new-rule in
+pub first_orphan_by_halves-requires : goal.first_orphan_by_halves-requires
+first_orphan_by_halves-requires c =
+    let s = sound (goal.at.first_orphan_by_halves-requires c).After-new-rule in
     record { sound = s; room = omega (arith, enough (the_rule c.new-rule.result) s, c.if-work-lt-WORK.false) }
 
 pub returns-in-Word : goal.returns-in-Word

@@ -1,7 +1,7 @@
 use Rattle.std.proofs.lemmas.Bool.{eq-eqb, eqb-true}
-use Rattle.bfs.specs.Sets.{In}
+use Rattle.orphans.specs.Sets.{In}
 use Rattle.std.proofs.Common.{subst}
-use Rattle.bfs.proofs.BitSets.{empty_from_members, in_empty}
+use Rattle.orphans.proofs.BitSets.{empty_from_members, in_empty}
 use Rattle.orphans.proofs.sets.BlockSet.is_empty.Goals as goal
 
 pub returns : goal.returns

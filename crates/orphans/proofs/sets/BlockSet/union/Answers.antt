@@ -1,4 +1,4 @@
-use Rattle.bfs.proofs.BitSets.{in_or}
+use Rattle.orphans.proofs.BitSets.{in_or}
 use Rattle.orphans.proofs.sets.BlockSet.union.Goals as goal
 
 pub returns : goal.returns

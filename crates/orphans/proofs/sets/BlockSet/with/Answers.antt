@@ -1,5 +1,5 @@
 use Rattle.std.proofs.lemmas.Nat.{one_shl}
-use Rattle.bfs.proofs.BitSets.{in_with}
+use Rattle.orphans.proofs.BitSets.{in_with}
 use Rattle.orphans.proofs.sets.BlockSet.with.Goals as goal
 
 pub returns : goal.returns

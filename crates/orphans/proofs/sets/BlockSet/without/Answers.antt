@@ -1,6 +1,6 @@
 use Rattle.std.proofs.Common.{arith}
 use Rattle.std.proofs.lemmas.Nat.{one_shl}
-use Rattle.bfs.proofs.BitSets.{in_without}
+use Rattle.orphans.proofs.BitSets.{in_without}
 use Rattle.orphans.proofs.sets.BlockSet.without.Goals as goal
 
 pub returns : goal.returns

@@ -1,5 +1,5 @@
 use Rattle.std.proofs.Common.{◌-◌, ◌^◌, ap, ◌∙◌}
-use Rattle.bfs.proofs.BitSets.{full_from_members}
+use Rattle.orphans.proofs.BitSets.{full_from_members}
 use Rattle.orphans.proofs.subsets.Subsets.start.Goals as goal
 
 pub returns : goal.returns

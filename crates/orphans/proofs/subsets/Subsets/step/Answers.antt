@@ -2,7 +2,7 @@ use Rattle.std.proofs.Common.{ℕ, ◌+◌, ◌*◌, ◌^◌, ◌<◌, ◌↔◌
 use Rattle.std.proofs.lemmas.Bool.Decides.{not_from_Decides}
 use Rattle.rules.specs.Local.{the_rule}
 use Rattle.rules.specs.Rules.{blocks_of}
-use Rattle.bfs.specs.Sets.{In}
+use Rattle.orphans.specs.Sets.{In}
 use Rattle.orphans.specs.Subsets.{Follows, Masks}
 use Rattle.orphans.proofs.Follow.{blocks_pos, place_lt, mask_at, collected_none, collected_more, collected_skip, follow_from_collected, follow_lt, in_follow}
 use Rattle.orphans.proofs.subsets.Subsets.step.Goals as goal

@@ -5,7 +5,7 @@ use lib.Arith.{bin_ind}
 use lib.Bits.{bit_and, bit_or, and_step, or_step, and_shr, or_shr}
 use lib.Pow.{pow-lt, ones_lt}
 use Rattle.std.proofs.lemmas.Bool.{cases_eq, cases_lt}
-use Rattle.bfs.specs.Sets.{In}
+use Rattle.orphans.specs.Sets.{In}
 
 -- the bit of s at j
 abbrev bit : ℕ → ℕ → ℕ
