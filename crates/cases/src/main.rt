@@ -1,7 +1,6 @@
 #![tactic(auto)]
 
-// Carries out command lines from standard input, so that pictures and refusals are compared as well.
-use commands::decide::decide;
+// Carries out command lines from standard input, so that refusals are compared as well as rows.
 use commands::fault::Fault;
 use commands::run::run;
 use commands::words::split_words;
@@ -9,21 +8,11 @@ use commands::words::split_words;
 fn main(rt: HostRuntime) -> Result<(), Fault> {
     for line in rt.lines(rt.alloc()) {
         let line = line?;
-        println!(rt; "$ {line}")?;
+        println!(rt; "$ run {line}")?;
         let words = split_words(rt.alloc(), line.as_str())?;
-        if let Err(fault) = carry_out(&rt, words.as_slice()) {
-            let name = line.as_str().split_whitespace().next().unwrap_or("");
-            println!(rt; "{name}: {fault}")?;
+        if let Err(fault) = run(&rt, words.as_slice()) {
+            println!(rt; "run: {fault}")?;
         }
     }
     Ok(())
-}
-
-// The first word is the command, and the others are its arguments.
-fn carry_out(rt: &HostRuntime, words: &[String]) -> Result<(), Fault> {
-    match words {
-        [name, ..] if name.as_str() == "decide" => decide(rt, &words[1..]),
-        [name, ..] if name.as_str() == "run" => run(rt, &words[1..]),
-        _ => Err(Fault::FewArguments),
-    }
 }

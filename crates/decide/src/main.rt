@@ -4,12 +4,13 @@
 use commands::decide::decide;
 use commands::fault::Fault;
 use std::env;
+use std::process::ExitCode;
 
-fn main(rt: HostRuntime) -> Result<(), Fault> {
+fn main(rt: HostRuntime) -> Result<ExitCode, Fault> {
     let words = env::args(&rt)?.skip(1).collect::<Vec<String>>(rt.alloc())?;
-    let done = decide(&rt, words.as_slice());
-    if let Err(fault) = &done {
+    if let Err(fault) = decide(&rt, words.as_slice()) {
         eprintln!(rt; "decide: {fault}. Try --help.")?;
+        return Ok(ExitCode::FAILURE);
     }
-    done
+    Ok(ExitCode::SUCCESS)
 }

@@ -4,12 +4,13 @@
 use commands::fault::Fault;
 use commands::run::run;
 use std::env;
+use std::process::ExitCode;
 
-fn main(rt: HostRuntime) -> Result<(), Fault> {
+fn main(rt: HostRuntime) -> Result<ExitCode, Fault> {
     let words = env::args(&rt)?.skip(1).collect::<Vec<String>>(rt.alloc())?;
-    let done = run(&rt, words.as_slice());
-    if let Err(fault) = &done {
+    if let Err(fault) = run(&rt, words.as_slice()) {
         eprintln!(rt; "run: {fault}. Try --help.")?;
+        return Ok(ExitCode::FAILURE);
     }
-    done
+    Ok(ExitCode::SUCCESS)
 }
