@@ -1,11 +1,11 @@
 -- The first word to the empty set of blocks is the first orphan.
-use Rattle.std.proofs.Common.{◌≡◌, ℕ, ◌-◌, ◌^◌, ◌≤◌, List, length, take, drop, sym, refl, ap, ◌∙◌, subst, length-take-le}
+use Rattle.std.proofs.Common.{ℕ, ◌-◌, ◌^◌, List, take, drop, sym, ap, ◌∙◌, length-take-le}
 use Rattle.bfs.specs.declared.Found.{Found}
 use Rattle.bfs.specs.declared.Found.TheVariants.{Word, Long, Nothing}
 use Rattle.bfs.specs.Answer.{Says}
 use Rattle.bfs.specs.Words.{LeadsTo, FirstWord}
 use Rattle.orphans.specs.Orphans.{TellsOrphan}
-use Rattle.rules.specs.Rules.{Rule, Piece}
+use Rattle.rules.specs.Rules.{Rule}
 use Rattle.theory.specs.Says.{FromNothing, FirstOrphan}
 use Rattle.orphans.specs.Subsets.{SetsTell, follow}
 

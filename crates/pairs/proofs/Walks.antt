@@ -1,5 +1,5 @@
 -- Walks in the pair graph: the blocks on their way, and how two walks are put together or one is cut.
-use Rattle.std.proofs.Common.{◌≡◌, ℕ, zero, suc, ◌+◌, ◌-◌, ◌*◌, ◌/◌, ◌%◌, ◌^◌, ◌<◌, ◌≤◌, List, [], ◌∷◌, ◌++◌, map, length, get_or, take, drop, sym, refl, ap, ◌∙◌, ap₂, mul-le-mul_left, pow-suc, arith, length-append, length-drop, length-take, take_all, take-take, drop-drop}
+use Rattle.std.proofs.Common.{◌≡◌, ℕ, zero, suc, ◌+◌, ◌-◌, ◌*◌, ◌/◌, ◌%◌, ◌^◌, ◌<◌, ◌≤◌, List, [], ◌∷◌, ◌++◌, map, length, get_or, take, drop, sym, ap, ◌∙◌, ap₂, mul-le-mul_left, pow-suc, arith, length-append, length-drop, length-take, take_all, take-take, drop-drop}
 use native.Mathlib.Nat.{one-le-pow, pow-zero}
 use Rattle.std.proofs.lemmas.Nat.{mul-le, mul-add-lt, div-add-mod', div_below, mod_below}
 use Rattle.std.proofs.lemmas.List.{drop-take, nil_from_length}

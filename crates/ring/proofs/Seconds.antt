@@ -1,8 +1,7 @@
 -- Seconds on a ring: what stands at each place, and the row that is itself again.
-use Rattle.std.proofs.Common.{◌≡◌, ℕ, zero, suc, ◌+◌, ◌-◌, ◌*◌, ◌/◌, ◌%◌, ◌<◌, ◌≤◌, List, length, get_or, take, drop, sym, refl, ap, ◌∙◌, subst, add-zero, mod-lt, mod-eq_of_lt, zero-add, arith, take_all, ext_get_or}
+use Rattle.std.proofs.Common.{◌≡◌, ℕ, zero, suc, ◌+◌, ◌-◌, ◌%◌, ◌<◌, ◌≤◌, List, length, get_or, sym, refl, ap, ◌∙◌, add-zero, mod-lt, mod-eq_of_lt, zero-add, arith, take_all, ext_get_or}
 use native.Mathlib.Nat.{add-mod-mod, add-mod_left}
-use Rattle.rules.specs.Rules.{Rule, rule_of, Formed, Sound, Piece, at, next}
-use Rattle.theory.specs.Says.{Back}
+use Rattle.rules.specs.Rules.{Rule, rule_of, Formed, Piece, at, next}
 use Rattle.rules.proofs.Next.{length-next, get_or-next, piece_next}
 use Rattle.rules.proofs.Tables.{formed_from_sound}
 use Rattle.theory.proofs.Undone.{both_ways}

@@ -1,7 +1,7 @@
 -- Twins out of pieces: two pieces of one next row that differ far from both ends give two rows of one next.
 use Rattle.std.proofs.Common.{◌≡◌, ℕ, suc, ◌+◌, ◌-◌, ◌^◌, ◌<◌, ◌≤◌, List, ◌++◌, length, get_or, take, drop, sym, ap, ◌∙◌, arith, length-append, length-drop, length-take, get_or-drop, get_or-take, drop-drop, take_at, drop_at}
 use Rattle.std.proofs.ByRecursion.{All-append, All-take, All-drop}
-use Rattle.rules.specs.Rules.{Rule, Piece, next, Row}
+use Rattle.rules.specs.Rules.{Rule, Piece, Row}
 use Rattle.theory.specs.Says.{OneNext, SameNext}
 use Rattle.theory.proofs.Rows.{length_part}
 use Rattle.theory.proofs.Pigeon.{pigeonhole_words}

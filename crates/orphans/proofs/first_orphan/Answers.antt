@@ -1,4 +1,4 @@
-use Rattle.std.proofs.Common.{◌≡◌, ◌+◌, ◌-◌, ◌*◌, ◌^◌, length, sym, ap, ◌∙◌, subst, ap₂, arith, take_all}
+use Rattle.std.proofs.Common.{◌≡◌, ◌-◌, ◌*◌, ◌^◌, ap, ◌∙◌, subst, arith, take_all}
 use native.Mathlib.Nat.{one-le-pow}
 use Rattle.rules.specs.Local.{the_rule}
 use Rattle.bfs.specs.Answer.{Says}

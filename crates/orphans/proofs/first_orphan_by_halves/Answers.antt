@@ -1,11 +1,10 @@
-use Rattle.std.proofs.Common.{◌≡◌, ℕ, ◌+◌, ◌-◌, ◌*◌, ◌/◌, ◌%◌, ◌^◌, ◌≤◌, List, length, take, sym, ap, ◌∙◌, subst, ap₂, mul_comm, arith, take_all}
+use Rattle.std.proofs.Common.{◌≡◌, ℕ, ◌-◌, ◌*◌, ◌/◌, ◌%◌, ◌^◌, ◌≤◌, List, length, take, sym, ap, ◌∙◌, subst, ap₂, mul_comm, arith, take_all}
 use native.Mathlib.Nat.{one-le-pow}
 use Rattle.std.proofs.lemmas.Nat.{shl_whole}
 use Rattle.bfs.specs.Answer.{Says}
 use Rattle.rules.specs.Local.{the_rule}
 use Rattle.rules.specs.Rules.{Rule, blocks_of}
 use Rattle.rules.proofs.Tables.{formed_local, pow_pred}
-use Rattle.orphans.specs.Orphans.{TellsOrphan}
 use Rattle.orphans.specs.Subsets.{Masks, follow}
 use Rattle.orphans.proofs.BitSets.{empty_from_members, full_from_members}
 use Rattle.orphans.proofs.Reached.{tells}

@@ -1,4 +1,4 @@
-use Rattle.std.proofs.Common.{◌<◌, ◌≤◌, eqb, length, sym, subst, arith}
+use Rattle.std.proofs.Common.{eqb, length, sym, subst, arith}
 use Rattle.std.proofs.lemmas.List.Sums.{count_by-le-length}
 use Rattle.rules.specs.Local.{the_rule}
 use Rattle.pairs.specs.Pairs.{endless, Rounds}

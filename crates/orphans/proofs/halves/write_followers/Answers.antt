@@ -1,4 +1,4 @@
-use Rattle.std.proofs.Common.{◌≡◌, ℕ, ◌+◌, ◌-◌, ◌*◌, ◌%◌, ◌^◌, ◌<◌, ◌≤◌, length, get_or, take, drop, sym, ap, ◌∙◌, subst, mul-le-mul_right, mod-lt, mul_comm, add-mul, le_antisymm, pow-suc, add-one, arith, length-drop, length-take, get_or-drop, get_or-take, pow_pos, pow_mono, rules}
+use Rattle.std.proofs.Common.{◌≡◌, ℕ, ◌+◌, ◌-◌, ◌*◌, ◌%◌, ◌^◌, ◌<◌, ◌≤◌, length, get_or, take, drop, sym, ap, ◌∙◌, subst, mul-le-mul_right, mod-lt, mul_comm, add-mul, le_antisymm, pow-suc, add-one, arith, length-drop, length-take, get_or-drop, get_or-take, pow_mono, rules}
 use native.Mathlib.Nat.{pow-zero}
 use lib.Bits.{bit_or}
 use Rattle.std.proofs.lemmas.Nat.{shl_whole}
