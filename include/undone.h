@@ -1,8 +1,8 @@
 /* Whether a rule on rows of cells can be run backwards, and rows in a ring.
  *
- * Link with libcapi.a, which `rt staticlib capi` writes to target/staticlib. Every value is looked at and refused where it
- * does not fit; a pointer has to be good for as many elements as the number behind it says, and what is written through one
- * must not overlap what another points to. Nothing is allocated or kept.
+ * Link with libcapi.a, which `rt lib` in crates/capi proves and writes to crates/capi/out. Every value is looked at and
+ * refused where it does not fit; a pointer has to be good for as many elements as the number behind it says, and what is
+ * written through one must not overlap what another points to. Nothing is allocated or kept.
  *
  * A rule has `kinds` kinds of cells, numbered from 0, at least 2, and looks at `width` cells, at least 2, with at most 16
  * blocks of width - 1 cells. `table` has a cell for each window, in order of the window's digits, the first the highest. */

@@ -1,5 +1,5 @@
 -- Endless rows that stand in lent cells.
-use Rattle.std.specs.Prelude.{ℕ, ◌+◌, List, take, drop}
+use Rattle.std.specs.Prelude.{ℕ, List, take, drop}
 use Rattle.rules.specs.Rules.{Row}
 use Rattle.answers.specs.declared.endless.EndlessRow.{EndlessRow}
 

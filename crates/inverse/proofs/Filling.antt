@@ -1,5 +1,5 @@
 -- The table of a way back, written piece by piece.
-use Rattle.std.proofs.Common.{◌≡◌, ℕ, zero, suc, ◌+◌, ◌-◌, ◌^◌, ◌<◌, ◌≤◌, List, [], ◌∷◌, ◌++◌, length, get_or, take, drop, set, sym, refl, ap, ◌∙◌, subst, ⊎_elim, append_assoc, append-nil, arith, length-append, length-take-le, get_or-set_other, get_or-take, get_or-set_same, drop-set-lt}
+use Rattle.std.proofs.Common.{◌≡◌, ℕ, suc, ◌+◌, ◌-◌, ◌^◌, ◌<◌, ◌≤◌, List, [], ◌∷◌, ◌++◌, length, get_or, take, set, sym, refl, ap, ◌∙◌, subst, ⊎_elim, append_assoc, arith, length-append, length-take-le, get_or-set_other, get_or-take, get_or-set_same, drop-set-lt}
 use native.Mathlib.Decide.{ℕ_discrete}
 use Rattle.std.proofs.ByRecursion.{All-append, All-from_get_or}
 use Rattle.std.proofs.lemmas.List.{nil_from_length}

@@ -4,7 +4,7 @@ use Rattle.std.proofs.ByRecursion.{All-drop, All-push}
 use Rattle.std.proofs.lemmas.List.{length_push}
 use Rattle.inverse.specs.declared.table.Prefix.{Prefix}
 use Rattle.inverse.specs.Prefixes.{Keeps}
-use Rattle.rules.specs.Rules.{Rule, Piece, digits, at, next}
+use Rattle.rules.specs.Rules.{Rule, digits, at, next}
 use Rattle.rules.proofs.Digits.{digits_push, digits_rest}
 use Rattle.inverse.proofs.Reading.{last_of, length_last, last_push_short, last_push, next_push_short, next_push}
 

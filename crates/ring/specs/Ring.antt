@@ -24,7 +24,7 @@ ring_from r s u = next r (unrolled s (length u + (r.wide - 1)) u)
 -- one second on a ring: each cell comes of the window that starts o cells before it. A rule has o = 0, and a way back its
 -- place
 abbrev pub ring : Rule → ℕ → List ℕ → List ℕ
-ring r o u = ring_from r (start o (length u)) u
+ring r o u = next r (unrolled (start o (length u)) (length u + (r.wide - 1)) u)
 
 -- s seconds
 abbrev pub rings : Rule → ℕ → ℕ → List ℕ → List ℕ

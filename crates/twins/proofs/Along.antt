@@ -1,5 +1,5 @@
 -- Twins along a path back and a path on from one pair.
-use Rattle.std.proofs.Common.{◌≡◌, ℕ, zero, suc, ◌+◌, ◌-◌, ◌*◌, ◌/◌, ◌%◌, ◌^◌, ◌<◌, ◌≤◌, List, [], ◌∷◌, ◌++◌, map, reverse, length, get_or, take, drop, sym, refl, ap, ◌∙◌, subst, ap₂, ⊎_elim, append_assoc, arith, length-append, length-drop, take-append-drop, length-take, get_or-drop, get_or-take, ext_get_or, take-add}
+use Rattle.std.proofs.Common.{◌≡◌, ℕ, suc, ◌+◌, ◌-◌, ◌*◌, ◌/◌, ◌%◌, ◌<◌, ◌≤◌, List, [], ◌∷◌, ◌++◌, map, reverse, length, get_or, take, drop, sym, refl, ap, ◌∙◌, subst, ap₂, ⊎_elim, append_assoc, arith, length-append, length-drop, take-append-drop, length-take, get_or-drop, get_or-take, ext_get_or, take-add}
 use native.Mathlib.Decide.{ℕ_discrete}
 use Rattle.std.proofs.lemmas.Nat.{div-mul-add, mod-mul-add}
 use Rattle.std.proofs.lemmas.List.{length-reverse, get_or-map, get_or_append_left, take_rest}
@@ -11,7 +11,7 @@ use Rattle.theory.specs.Says.{OneNext, SameNext}
 use Rattle.pairs.specs.Pairs.{pairs_of, block_at, pair_at}
 use Rattle.rules.specs.Rows.{Puts}
 use Rattle.twins.specs.Twins.{Path, Unlike, Repeated, first_cell, second_cell, TwinsWritten}
-use Rattle.theory.proofs.Cycles.{cut, Repeats}
+use Rattle.theory.proofs.Cycles.{cut}
 use Rattle.twins.proofs.Paths.{PiecesAlong, pieces_along, cells_at, link_back, link_on, length_row, get_or_before, get_or-behind}
 use Rattle.theory.proofs.Repeats.{twins_cut}
 use Rattle.pairs.proofs.Walks.{Link, pairs_le, wide_le, block_lt, blocks_from_pair}

@@ -9,7 +9,7 @@ use Rattle.pairs.specs.declared.Direction.{Direction}
 use Rattle.pairs.specs.declared.Direction.TheVariants.{Past, Future}
 use Rattle.rules.specs.Rules.{Rule, Sound, Piece, digits, blocks_of}
 use Rattle.theory.specs.Says.{OneNext}
-use Rattle.pairs.specs.Pairs.{pairs_of, block_at, pair_at, Depths, Edge, neighbour_of}
+use Rattle.pairs.specs.Pairs.{pairs_of, pair_at, Depths, Edge, neighbour_of}
 use Rattle.twins.specs.Twins.{Step, Path, Lasting, first_cell, second_cell}
 use Rattle.rules.proofs.Digits.{digits_append, digit_at}
 use Rattle.pairs.proofs.Edges.{edge_from_has, towards_from_edge}

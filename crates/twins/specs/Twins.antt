@@ -1,5 +1,5 @@
 -- Paths in the pair graph, and the twins that are written along them.
-use Rattle.std.specs.Prelude.{◌≡◌, ℕ, ◌+◌, ◌*◌, ◌/◌, ◌%◌, ◌<◌, ◌≤◌, List, ◌++◌, length, slice_index, slice_index_or}
+use Rattle.std.specs.Prelude.{◌≡◌, ℕ, ◌+◌, ◌*◌, ◌/◌, ◌%◌, ◌<◌, List, ◌++◌, length, slice_index, slice_index_or}
 use Rattle.pairs.specs.declared.Direction.{Direction}
 use Rattle.twins.specs.declared.Lengths.{Lengths}
 use Rattle.twins.specs.declared.Repeat.{Repeat}

@@ -1,4 +1,4 @@
-use Rattle.std.proofs.Common.{◌<◌, length, get_or, le_trans, below_more}
+use Rattle.std.proofs.Common.{length, get_or, le_trans, below_more}
 use Rattle.theory.proofs.Pigeon.{pigeonhole_ℕ}
 use Rattle.twins.proofs.find_repeat.Goals as goal
 

@@ -1,4 +1,4 @@
-use Rattle.std.proofs.Common.{◌*◌, ◌≤◌, get_or, sym, ap, ◌∙◌, subst, ap₂, le_trans, below_more}
+use Rattle.std.proofs.Common.{◌*◌, ◌≤◌, get_or, ap, ◌∙◌, subst, ap₂, le_trans, below_more}
 use Rattle.rules.specs.Local.{the_rule}
 use Rattle.twins.proofs.Paths.{lasting_onward}
 use Rattle.twins.proofs.onward.Goals as goal

@@ -1,4 +1,4 @@
-use Rattle.std.proofs.Common.{◌≡◌, ◌+◌, ◌-◌, ◌*◌, ◌<◌, length, get_or, sym, ap, subst, ap₂, le_trans, arith}
+use Rattle.std.proofs.Common.{◌≡◌, ◌-◌, ◌*◌, ◌<◌, get_or, sym, ap, subst, ap₂, le_trans, arith}
 use Rattle.rules.specs.Local.{the_rule}
 use Rattle.pairs.specs.Pairs.{pairs_of}
 use Rattle.twins.proofs.Along.{words_behind, rows_fit, written_along}

@@ -1,4 +1,4 @@
-use Rattle.std.proofs.Common.{◌*◌, ◌/◌, ◌%◌, ◌<◌, ◌++◌, map, reverse, length, drop, sym, subst, ap₂, arith, length-drop, length-take}
+use Rattle.std.proofs.Common.{◌*◌, ◌/◌, ◌%◌, ◌<◌, ◌++◌, map, reverse, sym, subst, ap₂, arith, length-drop, length-take}
 use Rattle.rules.specs.Local.{the_rule}
 use Rattle.rules.specs.Rows.{Puts}
 use Rattle.twins.proofs.Paths.{worth_pos, length_row}
