@@ -13,7 +13,7 @@ sound_given g = record { kinds = g.two; wide = g.some; small = g.few; full = g.f
 -- with enough words of work, a rule gets an answer
 pub answered : {k m : ℕ} {t : List ℕ} {w : ℕ} {o o' : List ℕ} {d : Decided} → Sound (rule_of k m t) → 524288 ≤ w → DecidedPost k m t w o o' d → Answer (rule_of k m t) o o' d
 answered sound room post =
-    ⊎_elim (λ says. says.1) (λ none. ⊎_elim (λ (is, no-rule, same). absurd (no-rule sound)) (λ (is, same). absurd (not-le_of_lt (post.few.1 is) room)) none) post.says
+    ⊎_elim (λ says. says.1) (λ none. ⊎_elim (λ (is, no_rule, same). absurd (no_rule sound)) (λ (is, same). absurd (not-le_of_lt (post.few.1 is) room)) none) post.says
 
 -- a way back is a table that can be run
 pub formed_back : {r : Rule} {v p : ℕ} {t : List ℕ} → Sound r → Least r v p t → Formed (rule_of r.kinds v t)

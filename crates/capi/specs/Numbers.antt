@@ -9,11 +9,11 @@ use Rattle.rules.specs.Checks.{Unfit}
 use Rattle.rules.specs.declared.rule.NoRule.{NoRule}
 use Rattle.rules.specs.Rules.{rule_of}
 use Rattle.undone.specs.declared.Decided.{Decided}
-use Rattle.undone.specs.declared.Decided.TheVariants.{Undone, Twins, Orphan, UndoneFull, TwinsFull, OrphanFull, NoRule as no-rule, Few}
+use Rattle.undone.specs.declared.Decided.TheVariants.{Undone, Twins, Orphan, UndoneFull, TwinsFull, OrphanFull, NoRule as no_rule, Few}
 
 -- each answer has a number; what does not belong to it is 0
 abbrev pub numbers_of : Decided → Numbers
-numbers_of no-rule = record { answer = 0; width = 0; place = 0; orphan = 0; left = 0; middle = 0; right = 0 }
+numbers_of no_rule = record { answer = 0; width = 0; place = 0; orphan = 0; left = 0; middle = 0; right = 0 }
 numbers_of (Undone v o) = record { answer = 1; width = v; place = o; orphan = 0; left = 0; middle = 0; right = 0 }
 numbers_of (Orphan n) = record { answer = 2; width = 0; place = 0; orphan = n; left = 0; middle = 0; right = 0 }
 numbers_of (Twins a b c) = record { answer = 3; width = 0; place = 0; orphan = 0; left = a; middle = b; right = c }

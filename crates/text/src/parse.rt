@@ -1,6 +1,6 @@
 // Cells that are read from their digits.
 ghost use Rattle.std.specs.Prelude.{◌≡◌, MatchOption, MatchResult};
-ghost use Rattle.text.specs.declared.parse.NoCells.TheVariants.{Memory as no-memory};
+ghost use Rattle.text.specs.declared.parse.NoCells.TheVariants.{Memory as no_memory};
 ghost use Rattle.text.specs.Parsed.{DigitOf, NotDigit, Reads, Refuses};
 
 use std::alloc::{AllocError, AllocFailed, Global};
@@ -14,7 +14,7 @@ pub enum NoCells {
 }
 
 impl From<AllocError> for NoCells {
-    ghost from_gives = { λ _ r. r ≡ no-memory };
+    ghost from_gives = { λ _ r. r ≡ no_memory };
 
     fn from(_e: AllocError) -> NoCells {
         NoCells::Memory
@@ -22,7 +22,7 @@ impl From<AllocError> for NoCells {
 }
 
 impl<T: Drop> From<AllocFailed<T>> for NoCells {
-    ghost from_gives = { λ _ r. r ≡ no-memory };
+    ghost from_gives = { λ _ r. r ≡ no_memory };
 
     fn from(_e: AllocFailed<T>) -> NoCells {
         NoCells::Memory

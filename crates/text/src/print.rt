@@ -1,6 +1,6 @@
 // Cells that are written as digits, or drawn.
 ghost use Rattle.std.specs.Prelude.{◌≡◌, ◌<◌, string_bytes};
-ghost use Rattle.text.specs.declared.print.NoText.TheVariants.{Memory as no-memory};
+ghost use Rattle.text.specs.declared.print.NoText.TheVariants.{Memory as no_memory};
 ghost use Rattle.text.specs.Letters.{written, symbol, shown, drawn};
 ghost use Rattle.text.specs.Shown.{Adds};
 
@@ -23,7 +23,7 @@ pub enum NoText {
 }
 
 impl From<AllocError> for NoText {
-    ghost from_gives = { λ _ r. r ≡ no-memory };
+    ghost from_gives = { λ _ r. r ≡ no_memory };
 
     fn from(_e: AllocError) -> NoText {
         NoText::Memory

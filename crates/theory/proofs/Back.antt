@@ -4,7 +4,7 @@ use Rattle.std.proofs.ByRecursion.{All-take, All-drop}
 use Rattle.rules.specs.Rules.{Rule, rule_of, Piece, digits, at, next, part}
 use Rattle.theory.specs.Says.{Back, NoWayBack}
 use Rattle.rules.proofs.Next.{length-next, get_or-next, next-drop, next-take}
-use Rattle.theory.proofs.Rows.{length_part, get_d_part}
+use Rattle.theory.proofs.Rows.{length_part, get_or-part}
 
 module _ (r : Rule) (some : 1 ≤ r.wide) (v o : ℕ) (t : List ℕ) (way : Back r v o t) where
   -- the cell at i, looked up by the v cells of the next row that start at i - o
@@ -63,7 +63,7 @@ no_way_back r a b v o t sound twins way = twins.differ (ext_get_or 0 a.mid b.mid
     same i h =
         let left = le-mul_of_pos_right n twins.as_long.3 in
         let right = le-mul_of_pos_right n twins.as_long.4 in
-        sym (get_d_part a n i h)
+        sym (get_or-part a n i h)
         ∙ back_same r (omega arith) v o t way (part a n) (part b n) (twins.pieces n).0 (twins.pieces n).1 as_long (twins.same n) (n * length a.left + i) (omega arith) (omega (arith, length_part a n))
         ∙ ap (λ l. get_or (part b n) (n * l + i) 0) twins.as_long.0
-        ∙ get_d_part b n i (omega arith)
+        ∙ get_or-part b n i (omega arith)

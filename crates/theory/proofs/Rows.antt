@@ -31,8 +31,8 @@ pub cells_part : (k : ℕ) (w : Row) (n : ℕ) → Cells k w.left → Cells k w.
 cells_part k w n left mid right = All-append (λ c. c < k) (copies n w.left) (w.mid ++ copies n w.right) (cells_copies k n w.left left) (All-append (λ c. c < k) w.mid (copies n w.right) mid (cells_copies k n w.right right))
 
 -- a cell of the middle, in a part of the row
-pub get_d_part : (w : Row) (n i : ℕ) → i < length w.mid → get_or (part w n) (n * length w.left + i) 0 ≡ get_or w.mid i 0
-get_d_part w n i h =
+pub get_or-part : (w : Row) (n i : ℕ) → i < length w.mid → get_or (part w n) (n * length w.left + i) 0 ≡ get_or w.mid i 0
+get_or-part w n i h =
     ap (λ l. get_or (part w n) (l + i) 0) (sym (length-copies n w.left))
     ∙ get_or-append-add (copies n w.left) (w.mid ++ copies n w.right) i 0
     ∙ get_or_append_left w.mid (copies n w.right) 0 i h

@@ -4,12 +4,14 @@
 // twins are told is open, so only the word is compared, and the rows are run here.
 use answers::answer::answer_line;
 use answers::endless::{EndlessRow, two_rows};
+use answers::given::GivenRule;
 use commands::fault::Fault;
-use commands::words::{parse_rule, split_words};
+use commands::options::Name;
 use rules::local::LocalRule;
 use rules::row::next_row;
 use rules::rule::MOST_WINDOWS;
 use std::alloc::Global;
+use text::parse::parse_cells;
 use undone::{Decided, WORK};
 
 fn main(rt: HostRuntime) -> Result<(), Fault> {
@@ -28,16 +30,46 @@ fn main(rt: HostRuntime) -> Result<(), Fault> {
     Ok(())
 }
 
+// The answer to a line of kinds, width and table. What comes behind these is not read.
 fn answer_to(heap: Global, line: &str, out: &mut [u32], work: &mut [u32]) -> Result<String, Fault> {
-    let words = split_words(heap, line)?;
-    let given = parse_rule(heap, words.as_slice())?;
-    let decided = given.decide_in(out, work);
-    if let Decided::Twins(left, mid, right) = decided {
-        let (first, second) = two_rows(left, mid, right, out);
-        let verdict = check_twins(heap, given.rule(), first, second)?;
-        return Ok(String::from_str(heap, verdict)?);
+    let mut words = line.split_whitespace();
+    let (Some(kinds), Some(wide), Some(cells)) = (words.next(), words.next(), words.next()) else {
+        return Err(Fault::FewArguments);
+    };
+    let (Ok(kinds), Ok(wide)) = (kinds.parse::<u32>(), wide.parse::<u32>()) else {
+        return Err(Fault::FewArguments);
+    };
+    match parse_cells(heap, kinds, cells) {
+        Ok(table) => answer_table(heap, kinds, wide, table, out, work),
+        Err(reason) => Err(Fault::Cells {
+            name: Name::Table,
+            reason,
+            kinds,
+        }),
     }
-    Ok(answer_line(heap, given.kinds(), decided, out)?)
+}
+
+fn answer_table(
+    heap: Global,
+    kinds: u32,
+    wide: u32,
+    table: Vec<u32>,
+    out: &mut [u32],
+    work: &mut [u32],
+) -> Result<String, Fault> {
+    let Ok(given) = GivenRule::new(kinds, wide, table) else {
+        return Ok(String::from_str(heap, "no rule")?);
+    };
+    match given.decide_in(out, work) {
+        Decided::Twins(left, mid, right) => {
+            let (first, second) = two_rows(left, mid, right, out);
+            let verdict = check_twins(heap, given.rule(), first, second)?;
+            Ok(String::from_str(heap, verdict)?)
+        }
+        Decided::TwinsFull => Ok(String::from_str(heap, "twins")?),
+        Decided::OrphanFull(n) => Ok(format!(in heap; "orphan of {n} cells")?),
+        decided => Ok(answer_line(heap, kinds, decided, out)?),
+    }
 }
 
 // Whether two rows differ and have one next row, with none, one and two copies of their parts on both sides.
