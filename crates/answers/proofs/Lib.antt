@@ -1,4 +1,1 @@
-mod Added
-mod Bits
-mod Fronts
 pub mod Sounds

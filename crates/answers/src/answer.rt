@@ -5,7 +5,8 @@ ghost use Rattle.answers.specs.Endless.{row_of};
 
 use crate::endless::{EndlessRow, split_front, two_rows};
 use std::alloc::{AllocError, Global};
-use text::print::{NoText, write_cells};
+use text::print::{Alphabet, NoText, write_cells};
+use twins::Lengths;
 use undone::Decided;
 
 // The line of an answer, whose cells stand first in `out`.
@@ -37,7 +38,7 @@ pub fn answer_line(
         Decided::OrphanFull(_) => Ok(String::from_str(heap, "orphan full")?),
         Decided::Twins(left, mid, right) => {
             let mut line = String::from_str(heap, "twins")?;
-            let (first, second) = two_rows(left, mid, right, out);
+            let (first, second) = two_rows(Lengths { left, mid, right }, out);
             add_row(&mut line, first)?;
             add_row(&mut line, second)?;
             Ok(line)
@@ -79,6 +80,6 @@ fn add_word(line: &mut String, cells: &[u32]) -> Result<(), NoText>
     ensures { OnOk result (string_bytes line.new ≡ string_bytes line.old ++ spaced cells.now) }
 {
     line.push(' ')?;
-    write_cells(line, cells)?;
+    write_cells(line, Alphabet::Digits, cells)?;
     Ok(())
 }

@@ -4,6 +4,7 @@ ghost use Rattle.rules.specs.Rules.{copies, part};
 ghost use Rattle.answers.specs.Endless.{behind, row_of, row_at};
 
 use std::alloc::{AllocError, Global};
+use twins::Lengths;
 
 // What a row has again and again to the left, its middle, and what it has again and again to the right.
 #[derive(Clone, Copy)]
@@ -18,48 +19,32 @@ impl EndlessRow<'_> {
     pub fn piece(self, heap: Global, copies: usize) -> Result<Vec<u32>, AllocError>
         ensures { IfOk result (λ v. v.items ≡ part (row_of self.entry) copies) }
     {
-        let mut piece = repeated(heap, self.left, copies)?;
-        let right = repeated(heap, self.right, copies)?;
+        let mut piece = self.left.repeat(heap, copies)?;
+        let right = self.right.repeat(heap, copies)?;
         piece.extend_from_slice(self.mid)?;
         piece.extend_from_slice(right.as_slice())?;
         Ok(piece)
     }
 }
 
-// The same cells so many times.
-fn repeated(heap: Global, cells: &[u32], times: usize) -> Result<Vec<u32>, AllocError>
-    ensures { IfOk result (λ v. v.items ≡ copies times cells.now) }
-{
-    let mut all = Vec::new(heap);
-    for _time in 0..times {
-        all.extend_from_slice(cells)?;
-    }
-    Ok(all)
-}
-
 // Two rows that stand first in `out`, one behind the other, by the lengths that their parts have.
-pub fn two_rows(
-    left: usize,
-    mid: usize,
-    right: usize,
-    out: &[u32],
-) -> (EndlessRow<'_>, EndlessRow<'_>)
-    ensures first { row_of result.0 ≡ row_at left mid right out.now }
-    ensures second { row_of result.1 ≡ row_at left mid right (behind left mid right out.now) }
+pub fn two_rows(lengths: Lengths, out: &[u32]) -> (EndlessRow<'_>, EndlessRow<'_>)
+    ensures first { row_of result.0 ≡ row_at lengths.left lengths.mid lengths.right out.now }
+    ensures second { row_of result.1 ≡ row_at lengths.left lengths.mid lengths.right (behind lengths.left lengths.mid lengths.right out.now) }
 {
-    let (first, rest) = split_row(left, mid, right, out);
-    let (second, _) = split_row(left, mid, right, rest);
+    let (first, rest) = split_row(lengths, out);
+    let (second, _) = split_row(lengths, rest);
     (first, second)
 }
 
 // The row that stands first in the cells, and the cells behind it.
-fn split_row(left: usize, mid: usize, right: usize, cells: &[u32]) -> (EndlessRow<'_>, &[u32])
-    ensures row { row_of result.0 ≡ row_at left mid right cells.now }
-    ensures rest { result.1.now ≡ behind left mid right cells.now }
+fn split_row(lengths: Lengths, cells: &[u32]) -> (EndlessRow<'_>, &[u32])
+    ensures row { row_of result.0 ≡ row_at lengths.left lengths.mid lengths.right cells.now }
+    ensures rest { result.1.now ≡ behind lengths.left lengths.mid lengths.right cells.now }
 {
-    let (left, cells) = split_front(cells, left);
-    let (mid, cells) = split_front(cells, mid);
-    let (right, cells) = split_front(cells, right);
+    let (left, cells) = split_front(cells, lengths.left);
+    let (mid, cells) = split_front(cells, lengths.mid);
+    let (right, cells) = split_front(cells, lengths.right);
     (EndlessRow { left, mid, right }, cells)
 }
 

@@ -1,11 +1,13 @@
 // Rules with tables of their own, and their decisions.
-ghost use Rattle.std.specs.Prelude.{◌≡◌, ℕ, ◌-◌, ◌^◌, ◌<◌, ◌≤◌, length, IfOk, slice_index};
+ghost use Rattle.std.specs.Prelude.{◌≡◌, length, IfOk};
+ghost use Rattle.std.proofs.Props.{props};
 ghost use Rattle.undone.specs.Decided.{Answer, DecidedPost};
 ghost use Rattle.rules.specs.Local.{the_rule};
-ghost use Rattle.rules.specs.Rules.{rule_of};
+ghost use Rattle.rules.specs.Rules.{rule_of, Sound};
 
 use rules::local::LocalRule;
-use rules::rule::{NoRule, check_rule};
+use rules::rule::NoRule;
+use rules::sound::SoundRule;
 use std::alloc::{AllocError, Global};
 use undone::{Decided, WORK, decide};
 
@@ -15,18 +17,14 @@ pub struct GivenRule {
     kinds: u32,
     wide: u32,
     table: Vec<u32>,
-    ghost two: { 2 ≤ kinds },
-    ghost some: { 2 ≤ wide },
-    ghost few: { kinds ^ (wide - 1) ≤ 16 },
-    ghost full: { length table.items ≡ kinds ^ wide },
-    ghost each: { (i : ℕ) → i < length table.items → slice_index table.items i < kinds },
+    ghost sound: { Sound (rule_of kinds wide table.items) } by { Prim.hlevel props },
 }
 
 impl GivenRule {
     pub fn new(kinds: u32, wide: u32, table: Vec<u32>) -> Result<GivenRule, NoRule>
         ensures { IfOk result (λ g. (g.kinds ≡ kinds) × (g.wide ≡ wide) × (g.table.items ≡ table.items)) }
     {
-        check_rule(kinds, wide, table.as_slice())?;
+        SoundRule::try_new(kinds, wide, table.as_slice())?;
         Ok(GivenRule { kinds, wide, table })
     }
 
@@ -36,10 +34,11 @@ impl GivenRule {
         self.kinds
     }
 
-    pub fn rule(&self) -> LocalRule<'_>
-        ensures { the_rule result ≡ rule_of self.now.kinds self.now.wide self.now.table.items }
+    pub fn rule(&self) -> SoundRule<'_>
+        ensures { the_rule result.local ≡ rule_of self.now.kinds self.now.wide self.now.table.items }
     {
-        LocalRule::new(self.kinds, self.wide, self.table.as_slice())
+        let local = LocalRule::new(self.kinds, self.wide, self.table.as_slice());
+        SoundRule { local }
     }
 
     // Decides the rule in words of work that are lent; what is told stands first in `out`.

@@ -5,3 +5,4 @@ pub mod answer;
 pub mod elementary;
 pub mod endless;
 pub mod given;
+pub mod workspace;

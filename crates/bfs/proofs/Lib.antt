@@ -1,5 +1,6 @@
 -- The argument, in its order.
 pub mod Ranks
+pub mod Spelling
 pub mod Pushes
 pub mod Steps
 pub mod Ends

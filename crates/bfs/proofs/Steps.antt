@@ -1,9 +1,11 @@
 -- The steps of the search: it begins with its start, and expands one place after another.
-use Rattle.std.proofs.Common.{◌≡◌, ℕ, zero, suc, ◌+◌, ◌<◌, true, false, ltb, [], get_or, replicate, is_some, Some, None, count_by, Option, sym, refl, ap, ◌∙◌, ⊎_elim, mul-le-mul_right, suc-mul, arith, below_more, MatchOption}
+use Rattle.std.proofs.Common.{◌≡◌, ℕ, zero, suc, ◌+◌, ◌<◌, true, false, ltb, length, get_or, replicate, is_some, Some, None, count_by, Option, sym, refl, ap, ◌∙◌, subst, ⊎_elim, mul-le-mul_right, suc-mul, arith, below_more, MatchOption}
 use Rattle.std.proofs.lemmas.Bool.{cases_eq, true≢false, false≢true}
 use Rattle.bfs.specs.declared.queue.Queue.{Queue}
-use Rattle.bfs.specs.Search.{state_at, mark_of, rank, Room, Empty, Takes, Pushed, PlaceOf, Met, Searched}
-use Rattle.bfs.proofs.Pushes.{at-written, at_other, room_pushed, count_more, tail_lt, searched_push}
+use Rattle.bfs.specs.Words.{run, Over}
+use Rattle.bfs.specs.Search.{state_at, mark_of, word_of, rank_of, Empty, Pushed, Met, Searched}
+use Rattle.bfs.proofs.Spelling.{long_after, at-written, at_other}
+use Rattle.bfs.proofs.Pushes.{count_more, searched_push}
 
 zero_at : (n u : ℕ) → ◌≡◌ {A = ℕ} (get_or (replicate n 0) u 0) 0
 zero_at zero u = refl
@@ -16,14 +18,17 @@ count_zeros (suc n) = count_zeros n
 
 -- a search begins with its start, by the word of no symbols
 module _ {n s : ℕ} {q q' : Queue} (empty : Empty n q) (below : s < n) (pushed : Pushed q s 0 0 q') where
-  room : Room n q
-  room = empty.room
+  known : s < length q.places.now
+  known = omega (arith, empty.room, q.places_long)
+
+  only : (j : ℕ) → j < q'.tail → j ≡ 0
+  only j l = omega (arith, pushed.tail, empty.none)
 
   start-at : (j : ℕ) → j < q'.tail → state_at q' j ≡ s
-  start-at j l = ap (state_at q') {y = q.tail} (omega (arith, pushed.tail)) ∙ at-written q.states.now q.tail s pushed.states (omega (arith, room.states_long))
+  start-at j l = ap (state_at q') {y = q.tail} (omega (arith, pushed.tail)) ∙ at-written q.states.now q.tail s pushed.states (omega (arith, empty.none, empty.room))
 
   start_place : mark_of q' s ≡ q.tail + 1
-  start_place = at-written q.places.now s (q.tail + 1) pushed.places (omega (arith, room.places_long))
+  start_place = at-written q.places.now s (q.tail + 1) pushed.places known
 
   none_placed : (u : ℕ) → mark_of q u ≡ 0
   none_placed u = ap (λ l. get_or l u 0) empty.clear ∙ zero_at n u
@@ -38,27 +43,24 @@ module _ {n s : ℕ} {q q' : Queue} (empty : Empty n q) (below : s < n) (pushed 
       (cases_eq u s)
 
   pub searched_start : {k : ℕ} {leads : ℕ → ℕ → ℕ} → Searched n k leads s q' 0 0
-  searched_start = (
-    λ j. [],
-    record {
-      holds =
-          record {
-            room = room_pushed room pushed;
-            some = omega (arith, pushed.tail);
-            spelled = record { parents_long = omega (arith, (room_pushed room pushed).parents_long, pushed.tail); symbols_long = omega (arith, (room_pushed room pushed).symbols_long, pushed.tail); root = refl; before = λ j l m. absurd (omega (arith, pushed.tail)); longer = λ j l m. absurd (omega (arith, pushed.tail)) };
-            inside = λ j l. omega (arith, start-at j l);
-            over = λ j l. tt;
-            runs = λ j l. sym (start-at j l);
-            rises = λ i j less l. absurd (omega (arith, pushed.tail));
-            marked = λ j l. ap (mark_of q') (start-at j l) ∙ start_place ∙ omega (arith, pushed.tail);
-            placed = start_placed;
-            counted = count_more q.places.now q'.places.now s q.tail pushed.places (omega (arith, room.places_long)) (none_placed s) ∙ omega (arith, ap (count_by (ltb 0)) empty.clear, count_zeros n, pushed.tail);
-          };
-      expanded = λ i d l m. absurd (omega arith);
-      begun = λ d l. absurd (omega arith);
-      next = λ j l m. omega arith;
-    },
-  )
+  searched_start {k} {leads} =
+      record {
+        holds =
+            record {
+              room = long_after q.states.now q.tail s pushed.states ∙ empty.room;
+              some = omega (arith, pushed.tail);
+              inside = λ j l. omega (arith, start-at j l);
+              over = λ j l. subst (λ j. Over k (word_of q' j)) (sym (only j l)) tt;
+              runs = λ j l. ap (λ j. run leads s (word_of q' j)) (only j l) ∙ sym (start-at j l);
+              rises = λ i j less l. absurd (omega (arith, only j l));
+              marked = λ j l. ap (mark_of q') (start-at j l) ∙ start_place ∙ omega (arith, pushed.tail);
+              placed = start_placed;
+              counted = count_more q.places.now q'.places.now s q.tail pushed.places known (none_placed s) ∙ omega (arith, ap (count_by (ltb 0)) empty.clear, count_zeros n, pushed.tail, empty.none);
+            };
+        expanded = λ i d l m. absurd (omega arith);
+        begun = λ d l. absurd (omega arith);
+        next = λ j l m. omega (arith, ap (rank_of k q') (only j l));
+      }
 
 -- a look-up that finds no place, and one that finds some
 pub at_none : {x : ℕ} (o : Option ℕ) → MatchOption o (x ≡ 0) (λ i. x ≡ i + 1) → is_some o ≡ false → x ≡ 0
@@ -76,16 +78,14 @@ pub record Expanding (n k : ℕ) (leads : ℕ → ℕ → ℕ) (s : ℕ) (q : Qu
   pub state : state_at q p ≡ v
 
 module _ {n k : ℕ} {leads : ℕ → ℕ → ℕ} {s : ℕ} {q : Queue} {p v c : ℕ} (e : Expanding n k leads s q p v c) where
-  pub takes_new : {u : ℕ} → u < n → (o : Option ℕ) → PlaceOf q u o → is_some o ≡ false → Takes q u
-  takes_new below o place new =
-      let h = e.searched.1.holds in
-      (n, h.room, tail_lt h below (at_none o place new), below)
+  r : Searched n k leads s q p c
+  r = e.searched
 
   -- a state that is new is pushed
   pub expanding_push : {u : ℕ} {q' : Queue} → c < k → u ≡ leads v c → u < n → mark_of q u ≡ 0 → Pushed q u p c q' → Expanding n k leads s q' p v (c + 1)
   expanding_push {u} known is below new pushed =
       record {
-        searched = searched_push e.searched.1 e.here known (is ∙ ap (λ x. leads x c) (sym e.state)) below new pushed;
+        searched = searched_push r e.here known (is ∙ ap (λ x. leads x c) (sym e.state)) below new pushed;
         here = omega (arith, e.here, pushed.tail);
         state = at_other q.states.now q.tail u pushed.states p (λ same. omega (arith, e.here)) ∙ e.state;
       }
@@ -93,18 +93,14 @@ module _ {n k : ℕ} {leads : ℕ → ℕ → ℕ} {s : ℕ} {q : Queue} {p v c 
   -- one that is found is passed over: no word in the queue is later than the word by this symbol
   pub expanding_skip : {u : ℕ} → u ≡ leads v c → (i : ℕ) × (mark_of q u ≡ i + 1) → Expanding n k leads s q p v (c + 1)
   expanding_skip {u} is (i, at) =
-      let W = e.searched.0 in
-      let r = e.searched.1 in
       record {
-        searched = (
-          W,
-          record {
-            holds = r.holds;
-            expanded = r.expanded;
-            begun = below_more (Met k leads q W p) c r.begun (i, ap (mark_of q) (ap (λ x. leads x c) e.state ∙ sym is) ∙ at, omega (arith, r.next i (r.holds.placed u i at).0 e.here));
-            next = λ j l m. omega (arith, r.next j l m);
-          },
-        );
+        searched =
+            record {
+              holds = r.holds;
+              expanded = r.expanded;
+              begun = below_more (Met k leads q p) c r.begun (i, ap (mark_of q) (ap (λ x. leads x c) e.state ∙ sym is) ∙ at, omega (arith, r.next i (r.holds.placed u i at).0 e.here));
+              next = λ j l m. omega (arith, r.next j l m);
+            };
         here = e.here;
         state = e.state;
       }
@@ -112,13 +108,9 @@ module _ {n k : ℕ} {leads : ℕ → ℕ → ℕ} {s : ℕ} {q : Queue} {p v c 
   -- once each symbol was followed, the next place is taken
   pub searched_next : c ≡ k → Searched n k leads s q (p + 1) 0
   searched_next all =
-      let W = e.searched.0 in
-      let r = e.searched.1 in (
-        W,
-        record {
-          holds = r.holds;
-          expanded = λ i d l m. below_more (λ i. Met k leads q W i d) p (λ i l. r.expanded i d l m) (r.begun d (omega arith)) i l;
-          begun = λ d l. absurd (omega arith);
-          next = λ j l m. omega (arith, r.next j l e.here, mul-le-mul_right {m = suc (rank k 0 (W p))} {n = rank k 0 (W (p + 1))} k (r.holds.rises p (p + 1) (omega arith) m), suc-mul (rank k 0 (W p)) k);
-        },
-      )
+      record {
+        holds = r.holds;
+        expanded = λ i d l m. below_more (λ i. Met k leads q i d) p (λ i l. r.expanded i d l m) (r.begun d (omega arith)) i l;
+        begun = λ d l. absurd (omega arith);
+        next = λ j l m. omega (arith, r.next j l e.here, mul-le-mul_right {m = suc (rank_of k q p)} {n = rank_of k q (p + 1)} k (r.holds.rises p (p + 1) (omega arith) m), suc-mul (rank_of k q p) k);
+      }

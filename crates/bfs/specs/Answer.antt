@@ -1,7 +1,6 @@
 -- What the search for the first word answers.
-use Rattle.std.specs.Prelude.{◌≡◌, ℕ, ◌<◌, ◌≤◌, List, ◌++◌, length, take, drop}
-use Rattle.bfs.specs.declared.Found.{Found}
-use Rattle.bfs.specs.declared.Found.TheVariants.{Word, Long, Nothing}
+use Rattle.std.specs.Prelude.{◌≡◌, ℕ, ◌<◌, ◌≤◌, List, ◌++◌, length, take, drop, Option, Some, None, Result, Ok, Err}
+use Rattle.bfs.specs.declared.TooLong.{TooLong}
 use Rattle.bfs.specs.Words.{FirstWord, NoWord}
 
 -- the first n cells of o' are the first word from s to t, and the others those of o
@@ -11,13 +10,12 @@ pub record Stands (k : ℕ) (leads : ℕ → ℕ → ℕ) (s t n : ℕ) (o o' : 
   pub rest : drop n o' ≡ drop n o
 
 -- what each answer says, where o is what was lent for the word and o' what it holds then
-abbrev pub Says : ℕ → (ℕ → ℕ → ℕ) → ℕ → ℕ → List ℕ → List ℕ → Found → Type 0
-Says k leads s t o o' (Word n) = Stands k leads s t n o o'
-Says k leads s t o o' (Long n) = ((w : List ℕ) × FirstWord k leads s t w × (length w ≡ n)) × (length o < n) × (o' ≡ o)
-Says k leads s t o o' Nothing = NoWord k leads s t × (o' ≡ o)
+abbrev pub Says : ℕ → (ℕ → ℕ → ℕ) → ℕ → ℕ → List ℕ → List ℕ → Result (Option ℕ) TooLong → Type 0
+Says k leads s t o o' (Ok (Some n)) = Stands k leads s t n o o'
+Says k leads s t o o' (Ok None) = NoWord k leads s t × (o' ≡ o)
+Says k leads s t o o' (Err e) = ((w : List ℕ) × FirstWord k leads s t w × (length w ≡ e.wanted)) × (length o < e.wanted) × (o' ≡ o)
 
 -- the word w was copied to the lent cells, or is too long for them
-abbrev pub Copied : List ℕ → List ℕ → List ℕ → Found → Type 0
-Copied w o o' (Word n) = (length w ≡ n) × (o' ≡ w ++ drop n o)
-Copied w o o' (Long n) = (length w ≡ n) × (length o < n) × (o' ≡ o)
-Copied w o o' Nothing = ⊥
+abbrev pub Copied : List ℕ → List ℕ → List ℕ → Result ℕ TooLong → Type 0
+Copied w o o' (Ok n) = (length w ≡ n) × (o' ≡ w ++ drop n o)
+Copied w o o' (Err e) = (length w ≡ e.wanted) × (length o < e.wanted) × (o' ≡ o)

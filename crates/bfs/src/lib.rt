@@ -36,19 +36,17 @@ pub trait Automaton {
         ensures below { result < states self.now };
 }
 
-// What a search for a word finds.
+// The word that was found has more symbols than the lent cells, of which none is written.
 #[derive(Clone, Copy, PartialEq, Eq, Debug)]
-pub enum Found {
-    // So many symbols, first in the lent cells.
-    Word(usize),
-    // So many symbols, more than the lent cells, of which none is written.
-    Long(usize),
-    // No word at all.
-    Nothing,
+pub struct TooLong {
+    // How many symbols it has.
+    pub wanted: usize,
 }
 
-// The shortest word that leads from start to target, and of these the first by its digits. The queue lies in 4 words for each
-// state, from `base` on. The time is at most that of following each symbol from each state once.
+// The shortest word that leads from start to target, and of these the first by its digits: how many symbols it has, which stand
+// first in the lent cells, or that there is none. The queue lies in 4 words for each state, from `base` on. The time is at most
+// that of following each symbol from each state once.
+#[tactic(auto, using(std::proofs::lemmas::Slice::overwrites))]
 pub fn shortest_word<A: Automaton>(
     automaton: &A,
     start: u32,
@@ -56,37 +54,38 @@ pub fn shortest_word<A: Automaton>(
     out: &mut [u32],
     work: &mut [u32],
     base: usize,
-) -> Found
-    requires start { start < A.Automaton.states automaton.now }
-    requires target { target < A.Automaton.states automaton.now }
-    requires room { base + 4 * A.Automaton.states automaton.now ≤ length work.old }
-    ensures says { Says (A.Automaton.symbols automaton.now) (A.Automaton.leads automaton.now) start target out.old out.new result }
+) -> Result<Option<usize>, TooLong>
+    requires start { start < A.states automaton.now }
+    requires target { target < A.states automaton.now }
+    requires room { base + 4 * A.states automaton.now ≤ length work.old }
+    ensures says { Says (A.symbols automaton.now) (A.leads automaton.now) start target out.old out.new result }
     ensures before { take base work.new ≡ take base work.old }
-    ensures behind { drop (base + 4 * A.Automaton.states automaton.now) work.new ≡ drop (base + 4 * A.Automaton.states automaton.now) work.old }
+    ensures behind { drop (base + 4 * A.states automaton.now) work.new ≡ drop (base + 4 * A.states automaton.now) work.old }
 {
     let n = automaton.states();
     let mut queue = Queue::new(&mut work[base..base + 4 * n as usize], n);
     match search(automaton, start, target, &mut queue) {
-        Some(place) => queue.read_back(place, out),
-        None => Found::Nothing,
+        Some(place) => queue.read_back(place, out).map(Some),
+        None => Ok(None),
     }
 }
 
 // Finds states until the target is among them, or all that can be reached. First in, first out: so the shorter word comes
 // first.
 fn search<A: Automaton>(automaton: &A, start: u32, target: u32, queue: &mut Queue) -> Option<u32>
-    requires start { start < A.Automaton.states automaton.now }
-    requires target { target < A.Automaton.states automaton.now }
-    requires empty { Empty (A.Automaton.states automaton.now) queue.old }
+    requires start { start < A.states automaton.now }
+    requires target { target < A.states automaton.now }
+    requires empty { Empty (A.states automaton.now) queue.old }
     ensures { MatchOption result
-        (NoWord (A.Automaton.symbols automaton.now) (A.Automaton.leads automaton.now) start target)
-        (FirstAt (A.Automaton.symbols automaton.now) (A.Automaton.leads automaton.now) start target queue.new) }
+        (NoWord (A.symbols automaton.now) (A.leads automaton.now) start target)
+        (FirstAt (A.symbols automaton.now) (A.leads automaton.now) start target queue.new) }
 {
     queue.push(start, 0, 0);
-    let mut head = 0;
-    while head < queue.tail && queue.place(target).is_none() {
+    for head in 0..automaton.states() {
+        if head >= queue.tail || queue.place(target).is_some() {
+            break;
+        }
         expand(automaton, head, queue);
-        head += 1;
     }
     queue.place(target)
 }
@@ -94,9 +93,9 @@ fn search<A: Automaton>(automaton: &A, start: u32, target: u32, queue: &mut Queu
 // Pushes each state that is new and that a symbol leads to from the place. The lowest symbol goes first: so of words as long
 // the one with smaller digits comes first.
 fn expand<A: Automaton>(automaton: &A, place: u32, queue: &mut Queue)
-    requires begun { Searched (A.Automaton.states automaton.now) (A.Automaton.symbols automaton.now) (A.Automaton.leads automaton.now) (origin queue.old) queue.old place 0 }
+    requires begun { Searched (A.states automaton.now) (A.symbols automaton.now) (A.leads automaton.now) (origin queue.old) queue.old place 0 }
     requires inside { place < queue.old.tail }
-    ensures { Searched (A.Automaton.states automaton.now) (A.Automaton.symbols automaton.now) (A.Automaton.leads automaton.now) (origin queue.old) queue.new (place + 1) 0 }
+    ensures { Searched (A.states automaton.now) (A.symbols automaton.now) (A.leads automaton.now) (origin queue.old) queue.new (place + 1) 0 }
 {
     let state = queue.states[place as usize];
     for symbol in 0..automaton.symbols() {

@@ -34,7 +34,7 @@ impl Automaton for Ring {
 const THREES: Ring = Ring { short: 1, long: 3 };
 
 // The word from state 0 to the target.
-fn found(ring: Ring, target: u32, out: &mut [u32]) -> Found
+fn found(ring: Ring, target: u32, out: &mut [u32]) -> Result<Option<usize>, TooLong>
     requires { target < 8 }
 {
     let mut work = [9; 40];
@@ -44,38 +44,35 @@ fn found(ring: Ring, target: u32, out: &mut [u32]) -> Found
 #[test]
 fn start_is_target(rt: HostRuntime) {
     let mut out = [7; 2];
-    assert_eq!(rt; found(THREES, 0, &mut out), Found::Word(0));
+    assert_eq!(rt; found(THREES, 0, &mut out), Ok(Some(0)));
     assert_eq!(rt; out, [7, 7]);
 }
 
 #[test]
 fn breadth_before_depth(rt: HostRuntime) {
     let mut out = [7; 2];
-    assert_eq!(rt; found(THREES, 3, &mut out), Found::Word(1));
+    assert_eq!(rt; found(THREES, 3, &mut out), Ok(Some(1)));
     assert_eq!(rt; out, [1, 7]);
 }
 
 #[test]
 fn first_of_two_by_digits(rt: HostRuntime) {
     let mut out = [7; 2];
-    assert_eq!(rt; found(THREES, 4, &mut out), Found::Word(2));
+    assert_eq!(rt; found(THREES, 4, &mut out), Ok(Some(2)));
     assert_eq!(rt; out, [0, 1]);
 }
 
 #[test]
 fn too_few_cells(rt: HostRuntime) {
     let mut out = [7; 2];
-    assert_eq!(rt; found(THREES, 7, &mut out), Found::Long(3));
+    assert_eq!(rt; found(THREES, 7, &mut out), Err(TooLong { wanted: 3 }));
     assert_eq!(rt; out, [7, 7]);
 }
 
 #[test]
 fn out_of_reach(rt: HostRuntime) {
     let mut out = [7; 2];
-    assert_eq!(rt;
-        found(Ring { short: 2, long: 6 }, 3, &mut out),
-        Found::Nothing
-    );
+    assert_eq!(rt; found(Ring { short: 2, long: 6 }, 3, &mut out), Ok(None));
     assert_eq!(rt; out, [7, 7]);
 }
 
@@ -85,7 +82,7 @@ fn words_outside_are_kept(rt: HostRuntime) {
     let mut work = [9; 40];
     assert_eq!(rt;
         shortest_word(&THREES, 1, 6, &mut out, &mut work, 5),
-        Found::Word(3)
+        Ok(Some(3))
     );
     assert_eq!(rt; out, [0, 0, 1, 7, 7, 7, 7, 7]);
     let (before, rest) = work.split_at(5);

@@ -11,6 +11,10 @@ use Rattle.rules.specs.Rules.{rule_of}
 use Rattle.undone.specs.declared.Decided.{Decided}
 use Rattle.undone.specs.declared.Decided.TheVariants.{Undone, Twins, Orphan, UndoneFull, TwinsFull, OrphanFull, NoRule as no_rule, Few}
 
+-- an answer with nothing that belongs to it
+abbrev pub bare : ℕ → Numbers
+bare n = record { answer = n; width = 0; place = 0; orphan = 0; left = 0; middle = 0; right = 0 }
+
 -- each answer has a number; what does not belong to it is 0
 abbrev pub numbers_of : Decided → Numbers
 numbers_of no_rule = record { answer = 0; width = 0; place = 0; orphan = 0; left = 0; middle = 0; right = 0 }

@@ -2,18 +2,17 @@
 
 // The library for C: answers as structs of numbers. `include/undone.h` declares what stands here.
 ghost use Rattle.std.specs.Prelude.{◌≡◌, length};
-ghost use Rattle.capi.specs.Numbers.{numbers_of, Stepped};
+ghost use Rattle.capi.specs.Numbers.{bare, numbers_of, Stepped};
 ghost use Rattle.undone.specs.declared.Decided.{Decided};
 ghost use Rattle.undone.specs.Decided.{DecidedPost};
 
-use ring::{Held, steps};
+use ring::{Held, RingRule};
 use rules::local::LocalRule;
-use rules::rule::check_way_back;
 use undone::{Decided, decide};
 
-// An answer by its number, with what belongs to it and 0 for the rest.
+// An answer by its number, with what belongs to it and 0 for the rest: C has no enum with values.
 #[repr(C)]
-#[derive(Clone, Copy)]
+#[derive(Clone, Copy, Default)]
 pub struct Numbers {
     pub answer: u32,
     // Of a way back.
@@ -27,16 +26,6 @@ pub struct Numbers {
     pub right: usize,
 }
 
-const NOTHING: Numbers = Numbers {
-    answer: 0,
-    width: 0,
-    place: 0,
-    orphan: 0,
-    left: 0,
-    middle: 0,
-    right: 0,
-};
-
 // Decides a rule, as `decide` does.
 #[unsafe(no_mangle)]
 pub extern "C" fn undone_decide(
@@ -48,55 +37,58 @@ pub extern "C" fn undone_decide(
 ) -> Numbers
     ensures { (d : Decided) × (result ≡ numbers_of d) × DecidedPost kinds wide table.now (length work.old) out.old out.new d }
 {
-    in_numbers(decide(kinds, wide, table, out, work))
+    Numbers::from(decide(kinds, wide, table, out, work))
 }
 
-fn in_numbers(decided: Decided) -> Numbers
-    ensures { result ≡ numbers_of decided }
-{
-    match decided {
-        Decided::Undone(width, place) => Numbers {
-            answer: 1,
-            width,
-            place,
-            ..NOTHING
-        },
-        Decided::Orphan(orphan) => Numbers {
-            answer: 2,
-            orphan,
-            ..NOTHING
-        },
-        Decided::Twins(left, middle, right) => Numbers {
-            answer: 3,
-            left,
-            middle,
-            right,
-            ..NOTHING
-        },
-        Decided::UndoneFull(width, place) => Numbers {
-            answer: 4,
-            width,
-            place,
-            ..NOTHING
-        },
-        Decided::OrphanFull(orphan) => Numbers {
-            answer: 5,
-            orphan,
-            ..NOTHING
-        },
-        Decided::TwinsFull => Numbers {
-            answer: 6,
-            ..NOTHING
-        },
-        Decided::NoRule => NOTHING,
-        Decided::Few => Numbers {
-            answer: 7,
-            ..NOTHING
-        },
+impl Numbers {
+    // An answer with nothing that belongs to it.
+    fn of(answer: u32) -> Numbers
+        ensures { result ≡ bare answer }
+    {
+        Numbers {
+            answer,
+            ..Numbers::default()
+        }
     }
 }
 
-// Where a row stands after some seconds, or why it was not run.
+impl From<Decided> for Numbers {
+    ghost from_gives = { λ d r. r ≡ numbers_of d };
+
+    fn from(decided: Decided) -> Numbers {
+        match decided {
+            Decided::NoRule => Numbers::of(0),
+            Decided::Undone(width, place) => Numbers {
+                width,
+                place,
+                ..Numbers::of(1)
+            },
+            Decided::Orphan(orphan) => Numbers {
+                orphan,
+                ..Numbers::of(2)
+            },
+            Decided::Twins(left, middle, right) => Numbers {
+                left,
+                middle,
+                right,
+                ..Numbers::of(3)
+            },
+            Decided::UndoneFull(width, place) => Numbers {
+                width,
+                place,
+                ..Numbers::of(4)
+            },
+            Decided::OrphanFull(orphan) => Numbers {
+                orphan,
+                ..Numbers::of(5)
+            },
+            Decided::TwinsFull => Numbers::of(6),
+            Decided::Few => Numbers::of(7),
+        }
+    }
+}
+
+// Where a row stands after some seconds, or why it was not run, as numbers for C.
 const IN_ROW: u32 = 0;
 
 const IN_SPARE: u32 = 1;
@@ -118,16 +110,11 @@ pub extern "C" fn undone_steps(
 ) -> u32
     ensures { Stepped kinds wide table.now place seconds row.old spare.old row.new spare.new result }
 {
-    let Ok(()) = check_way_back(kinds, wide, table) else {
+    let Ok(rule) = LocalRule::try_new(kinds, wide, table) else {
         return NO_RULE;
     };
-    match steps(
-        LocalRule::new(kinds, wide, table),
-        place,
-        seconds,
-        row,
-        spare,
-    ) {
+    let ring = RingRule { rule, place };
+    match ring.steps(seconds, row, spare) {
         Ok(Held::Row) => IN_ROW,
         Ok(Held::Spare) => IN_SPARE,
         Err(_) => NO_RING,

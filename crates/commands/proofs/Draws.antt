@@ -6,9 +6,6 @@ use Rattle.commands.specs.Random.{advanced, drawn_from, drawn_cells}
 pub record Drawn (k n seed : ℕ) (row : List ℕ) (i s : ℕ) : Type 0 where
   pub all : row ++ drawn_cells k (n - i) s ≡ drawn_cells k n seed
 
-pub drawn_none : (k n seed : ℕ) {row : List ℕ} {s : ℕ} → row ≡ [] → s ≡ seed → Drawn k n seed row 0 s
-drawn_none k n seed is is' = record { all = rw (is, is') (ap (λ m. drawn_cells k m seed) (omega arith)) }
-
 pub drawn_more : {k n seed : ℕ} {row row' : List ℕ} {i s s' c : ℕ} → i < n → Drawn k n seed row i s → s' ≡ advanced s → c ≡ drawn_from (advanced s) k → row' ≡ row ++ c ∷ [] → Drawn k n seed row' (i + 1) s'
 drawn_more {k} {n} {row = row} {i = i} {s = s} h d on is is' =
     record { all = rw (is', is, on) (append_assoc row _ _ ∙ ap (λ m. row ++ drawn_cells k m s) {x = suc (n - (i + 1))} (omega arith) ∙ d.all) }

@@ -6,23 +6,17 @@ ghost use Rattle.theory.specs.Says.{Least};
 use crate::fault::Fault;
 use answers::answer::answer_line;
 use answers::given::GivenRule;
+use inverse::WayBack;
 use std::alloc::Global;
 use undone::Decided;
 
-// The width of a way back, and its place.
-#[derive(Clone, Copy)]
-pub struct Told {
-    pub width: u32,
-    pub place: u32,
-}
-
 // Finds the least way back, and writes its table to the front of `out`; a rule that has none is refused with its answer.
-pub fn find_way_back(heap: Global, given: &GivenRule, out: &mut [u32]) -> Result<Told, Fault>
+pub fn find_way_back(heap: Global, given: &GivenRule, out: &mut [u32]) -> Result<WayBack, Fault>
     ensures { IfOk result (λ w. Least (rule_of given.now.kinds given.now.wide given.now.table.items) w.width w.place (take (given.now.kinds ^ w.width) out.new)) }
 {
     let decided = given.decide_once(heap, out)?;
     if let Decided::Undone(width, place) = decided {
-        return Ok(Told { width, place });
+        return Ok(WayBack { width, place });
     }
     let answer = answer_line(heap, given.kinds(), decided, out)?;
     match decided {

@@ -1,5 +1,5 @@
 // Cells that are given to a command as a word.
-use crate::fault::Fault;
+use crate::fault::{BadCells, Fault};
 use crate::options::Name;
 use std::alloc::Global;
 use text::parse::parse_cells;
@@ -8,12 +8,11 @@ use text::parse::parse_cells;
 pub const MOST_KINDS: u32 = 16;
 
 pub fn read_cells(heap: Global, name: Name, kinds: u32, word: &str) -> Result<Vec<u32>, Fault> {
-    match parse_cells(heap, kinds, word) {
-        Ok(cells) => Ok(cells),
-        Err(reason) => Err(Fault::Cells {
+    parse_cells(heap, kinds, word).map_err(|reason| {
+        Fault::Cells(BadCells {
             name,
             reason,
             kinds,
-        }),
-    }
+        })
+    })
 }

@@ -4,10 +4,9 @@ use crate::lines::Line;
 use crate::picture::draw;
 use crate::words::parse_rule;
 use answers::answer::answer_line;
-use rules::rule::MOST_WINDOWS;
+use answers::workspace::Workspace;
 use std::alloc::Global;
 use std::io::{BufReader, Read};
-use undone::WORK;
 
 pub const USAGE: &str = "\
 Usage: decide KINDS WIDTH TABLE
@@ -36,7 +35,7 @@ standard input, a line each, and each line is answered by one line:
 
 // Carries out the arguments of `decide`.
 pub fn decide(rt: &HostRuntime, args: &[String]) -> Result<(), Fault> {
-    if asks_help(args) {
+    if args.iter().any(|word| word.as_str() == "--help") {
         return Ok(rt.print(USAGE)?);
     }
     match args {
@@ -45,35 +44,27 @@ pub fn decide(rt: &HostRuntime, args: &[String]) -> Result<(), Fault> {
     }
 }
 
-fn asks_help(args: &[String]) -> bool {
-    for word in args {
-        if word.as_str() == "--help" {
-            return true;
-        }
-    }
-    false
-}
-
 // Answers one rule, and draws the reason. The words of work are let go before that.
 fn decide_one(rt: &HostRuntime, words: &[String]) -> Result<(), Fault> {
     let heap = rt.alloc();
     let given = parse_rule(heap, words)?;
-    let mut out = vec![in heap; 0; MOST_WINDOWS]?;
-    let decided = given.decide_once(heap, out.as_mut_slice())?;
+    let mut workspace = Workspace::new(heap)?;
+    let decided = workspace.decide(&given);
+    let out = workspace.into_told();
     let answer = answer_line(heap, given.kinds(), decided, out.as_slice())?;
     println!(rt; "{answer}\n")?;
     draw(rt, given.rule(), decided, out.as_slice())
 }
 
-// Answers the rules of standard input, in memory that is made once.
+// Answers the rules of standard input, in a workspace that is made once.
 fn decide_lines(rt: &HostRuntime) -> Result<(), Fault> {
-    let mut out = vec![in rt.alloc(); 0; MOST_WINDOWS]?;
-    let mut work = vec![in rt.alloc(); 0; WORK]?;
+    let mut workspace = Workspace::new(rt.alloc())?;
     let mut line = Line::new(rt.alloc());
+    // Byte by byte, since `lines` would hold a line of any length.
     for byte in BufReader::new(rt.alloc(), rt.stdin())?.bytes() {
         let byte = byte?;
         if byte == b'\n' {
-            answer_to(rt, &line, out.as_mut_slice(), work.as_mut_slice())?;
+            answer_to(rt, &line, &mut workspace)?;
             line.clear();
         } else {
             line.push(byte)?;
@@ -83,35 +74,21 @@ fn decide_lines(rt: &HostRuntime) -> Result<(), Fault> {
     if line.is_empty() {
         return Ok(());
     }
-    answer_to(rt, &line, out.as_mut_slice(), work.as_mut_slice())
+    answer_to(rt, &line, &mut workspace)
 }
 
 // Prints the answer to a line. What is no rule is answered too.
-fn answer_to(
-    rt: &HostRuntime,
-    line: &Line,
-    out: &mut [u32],
-    work: &mut [u32],
-) -> Result<(), Fault> {
-    match decide_line(rt.alloc(), line, out, work) {
+fn answer_to(rt: &HostRuntime, line: &Line, workspace: &mut Workspace) -> Result<(), Fault> {
+    match decide_line(rt.alloc(), line, workspace) {
         Ok(answer) => Ok(println!(rt; "{answer}")?),
-        Err(fault) => {
-            if fault.is_failure() {
-                return Err(fault);
-            }
-            Ok(println!(rt; "no rule: {fault}")?)
-        }
+        Err(fault) if fault.is_failure() => Err(fault),
+        Err(fault) => Ok(println!(rt; "no rule: {fault}")?),
     }
 }
 
-fn decide_line(
-    heap: Global,
-    line: &Line,
-    out: &mut [u32],
-    work: &mut [u32],
-) -> Result<String, Fault> {
+fn decide_line(heap: Global, line: &Line, workspace: &mut Workspace) -> Result<String, Fault> {
     let words = line.words(heap)?;
     let given = parse_rule(heap, words.as_slice())?;
-    let decided = given.decide_in(out, work);
-    Ok(answer_line(heap, given.kinds(), decided, out)?)
+    let decided = workspace.decide(&given);
+    Ok(answer_line(heap, given.kinds(), decided, workspace.told())?)
 }

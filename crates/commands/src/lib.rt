@@ -8,6 +8,8 @@ pub mod fault;
 pub mod lines;
 pub mod options;
 pub mod picture;
+pub mod programs;
 pub mod random;
+pub mod ring_row;
 pub mod run;
 pub mod words;

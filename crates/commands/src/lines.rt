@@ -9,7 +9,8 @@ use std::str;
 // The longest line that is held. A rule has at most 256 cells, so its words have room enough.
 const MOST_BYTES: usize = 4096;
 
-// A line that grows byte by byte. Of a longer one only that it is too long is held.
+// A line that grows byte by byte. Of a longer one only that it is too long is held. That is a flag beside the bytes, whose memory
+// is used for the next line.
 #[derive(Drop)]
 pub struct Line {
     bytes: Vec<u8>,

@@ -1,7 +1,11 @@
 // The arguments of `run`: a rule, and options.
+ghost use Rattle.std.specs.Prelude.{IfOk};
+
 use crate::fault::Fault;
 use std::alloc::Global;
 use std::fmt;
+use std::str::FromStr;
+use text::print::Alphabet;
 
 // What a value among the arguments is for.
 #[derive(Clone, Copy, PartialEq, Eq, Debug)]
@@ -16,6 +20,7 @@ pub enum Name {
     Place,
 }
 
+// As it is written among the arguments, which no derive knows.
 impl fmt::Display for Name {
     fn fmt<W: fmt::Write>(&self, f: &mut fmt::Formatter<W>) -> fmt::Result {
         let name = match self {
@@ -40,32 +45,32 @@ pub enum Source {
     Random { cells: usize, seed: u64 },
 }
 
+// How a table is run.
+#[derive(Clone, Copy, Debug)]
+pub enum Mode {
+    // As a rule.
+    Forwards,
+    // As a rule, by its least way back.
+    Backwards,
+    // As a way back itself, at its place.
+    WayBack(usize),
+}
+
 #[derive(Debug, Drop)]
 pub struct Options {
     pub kinds: u32,
     pub wide: u32,
     pub table: String,
+    pub mode: Mode,
     pub source: Source,
     pub steps: u64,
-    // A way back has a place, and a rule has none.
-    pub place: Option<usize>,
-    // The rule is run backwards, by its least way back.
-    pub back: bool,
-    // Only the last row is shown.
+    pub alphabet: Alphabet,
+    // Only the last row is shown: yes or no, with nothing beside it.
     pub last: bool,
-    // Rows are shown as pictures.
-    pub show: bool,
 }
 
-// What is asked for.
-#[derive(Debug, Drop)]
-pub enum Asked {
-    Help,
-    Run(Options),
-}
-
-// What the arguments have said so far.
-#[derive(Drop)]
+// What the arguments have said so far, each by itself: what goes together is found out at the end.
+#[derive(Default, Drop)]
 struct Draft {
     kinds: Option<u32>,
     wide: Option<u32>,
@@ -73,32 +78,15 @@ struct Draft {
     row: Option<String>,
     cells: Option<usize>,
     seed: Option<u64>,
-    steps: u64,
+    steps: Option<u64>,
     place: Option<usize>,
     back: bool,
+    alphabet: Option<Alphabet>,
     last: bool,
-    show: bool,
     help: bool,
 }
 
 impl Draft {
-    fn new() -> Draft {
-        Draft {
-            kinds: None,
-            wide: None,
-            table: None,
-            row: None,
-            cells: None,
-            seed: None,
-            steps: 16,
-            place: None,
-            back: false,
-            last: false,
-            show: false,
-            help: false,
-        }
-    }
-
     // One word: an option that wants a value is the answer; any other word is dealt with.
     fn begin(&mut self, heap: Global, word: &str) -> Result<Option<Name>, Fault> {
         match word {
@@ -109,7 +97,7 @@ impl Draft {
             "--place" => return Ok(Some(Name::Place)),
             "--back" => self.back = true,
             "--last" => self.last = true,
-            "--show" => self.show = true,
+            "--show" => self.alphabet = Some(Alphabet::Glyphs),
             "--help" => self.help = true,
             _ => self.take_rule(heap, word)?,
         }
@@ -134,54 +122,43 @@ impl Draft {
 
     fn set(&mut self, heap: Global, name: Name, word: &str) -> Result<(), Fault> {
         match name {
-            Name::Kinds => self.kinds = Some(number_u32(heap, name, word)?),
-            Name::Width => self.wide = Some(number_u32(heap, name, word)?),
+            Name::Kinds => self.kinds = Some(number(heap, name, word)?),
+            Name::Width => self.wide = Some(number(heap, name, word)?),
             Name::Table => self.table = Some(String::from_str(heap, word)?),
             Name::Row => self.row = Some(String::from_str(heap, word)?),
-            Name::Random => self.cells = Some(number(heap, name, word)? as usize),
+            Name::Random => self.cells = Some(number(heap, name, word)?),
             Name::Seed => self.seed = Some(number(heap, name, word)?),
-            Name::Steps => self.steps = number(heap, name, word)?,
-            Name::Place => self.place = Some(number(heap, name, word)? as usize),
+            Name::Steps => self.steps = Some(number(heap, name, word)?),
+            Name::Place => self.place = Some(number(heap, name, word)?),
         }
         Ok(())
     }
 }
 
-fn number(heap: Global, name: Name, word: &str) -> Result<u64, Fault> {
-    match word.parse::<u64>() {
-        Ok(n) => Ok(n),
-        Err(_) => Err(Fault::NoNumber(name, String::from_str(heap, word)?)),
-    }
+// The whole number that a word is.
+pub fn number<N: FromStr>(heap: Global, name: Name, word: &str) -> Result<N, Fault>
+where
+    N::Err: Drop,
+    ensures { IfOk result (λ n. N.from_str_gives word.now (Ok n)) }
+{
+    word.parse().try_map_err(|_| Ok(Fault::NoNumber(name, String::from_str(heap, word)?)))
 }
 
-pub fn number_u32(heap: Global, name: Name, word: &str) -> Result<u32, Fault> {
-    match word.parse::<u32>() {
-        Ok(n) => Ok(n),
-        Err(_) => Err(Fault::NoNumber(name, String::from_str(heap, word)?)),
+// What the arguments ask for: none where it is the help.
+pub fn parse_options(heap: Global, args: &[String]) -> Result<Option<Options>, Fault> {
+    let mut draft = Draft::default();
+    let mut words = args.iter();
+    while let Some(word) = words.next() {
+        if let Some(name) = draft.begin(heap, word.as_str())? {
+            let value = words.next().ok_or(Fault::NoValue(name))?;
+            draft.set(heap, name, value.as_str())?;
+        }
     }
-}
-
-// What the arguments ask for.
-pub fn parse_options(heap: Global, args: &[String]) -> Result<Asked, Fault> {
-    let mut draft = Draft::new();
-    let mut waiting = None;
-    for word in args {
-        waiting = match waiting {
-            None => draft.begin(heap, word.as_str())?,
-            Some(name) => {
-                draft.set(heap, name, word.as_str())?;
-                None
-            }
-        };
-    }
-    match waiting {
-        Some(name) => Err(Fault::NoValue(name)),
-        None => finish(draft),
-    }
+    finish(draft)
 }
 
 // Everything that is missing gets its default; a rule has none.
-fn finish(draft: Draft) -> Result<Asked, Fault> {
+fn finish(draft: Draft) -> Result<Option<Options>, Fault> {
     let Draft {
         kinds,
         wide,
@@ -192,51 +169,47 @@ fn finish(draft: Draft) -> Result<Asked, Fault> {
         steps,
         place,
         back,
+        alphabet,
         last,
-        show,
         help,
     } = draft;
     if help {
-        return Ok(Asked::Help);
+        return Ok(None);
     }
     let (Some(kinds), Some(wide), Some(table)) = (kinds, wide, table) else {
         return Err(Fault::FewArguments);
     };
-    if back && place.is_some() {
-        return Err(Fault::TwoPlaces);
-    }
-    let source = source_of(row, cells, seed)?;
-    Ok(Asked::Run(Options {
+    let mode = match (back, place) {
+        (true, Some(_)) => return Err(Fault::TwoPlaces),
+        (true, None) => Mode::Backwards,
+        (false, Some(place)) => Mode::WayBack(place),
+        (false, None) => Mode::Forwards,
+    };
+    Ok(Some(Options {
         kinds,
         wide,
         table,
-        source,
-        steps,
-        place,
-        back,
+        mode,
+        source: source_of(row, cells, seed)?,
+        steps: steps.unwrap_or(16),
+        alphabet: alphabet.unwrap_or(Alphabet::Digits),
         last,
-        show,
     }))
 }
 
+// Where the row comes from: it is given, or drawn in so many cells from a seed.
 fn source_of(
     row: Option<String>,
     cells: Option<usize>,
     seed: Option<u64>,
 ) -> Result<Source, Fault> {
-    match row {
-        None => Ok(Source::Random {
+    match (row, cells, seed) {
+        (None, _, _) => Ok(Source::Random {
             cells: cells.unwrap_or(64),
             seed: seed.unwrap_or(1),
         }),
-        Some(text) => {
-            if cells.is_some() || seed.is_some() {
-                return Err(Fault::TwoRows);
-            }
-            if text.as_str() == "-" {
-                return Ok(Source::Input);
-            }
-            Ok(Source::Given(text))
-        }
+        (Some(text), None, None) if text.as_str() == "-" => Ok(Source::Input),
+        (Some(text), None, None) => Ok(Source::Given(text)),
+        (Some(_), _, _) => Err(Fault::TwoRows),
     }
 }

@@ -30,6 +30,7 @@ impl Random {
 }
 
 // So many cells of so many kinds.
+#[tactic(auto, using(crate::proofs::Draws::drawn_more, crate::proofs::Draws::drawn_all))]
 pub fn random_cells(
     heap: Global,
     kinds: u32,
@@ -41,6 +42,7 @@ pub fn random_cells(
 {
     let mut random = Random::new(seed);
     let mut row = Vec::with_capacity(heap, cells)?;
+    // A `for`: of what a closure draws that changes its state a proof would know nothing.
     for _i in 0..cells {
         row.push(random.below(kinds))?;
     }

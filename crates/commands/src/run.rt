@@ -1,22 +1,22 @@
 // The command `run`: a row in a ring, forwards by a rule, or backwards by a way back.
-ghost use Rattle.std.specs.Prelude.{◌≡◌, OnOk};
-ghost use Rattle.rules.specs.Rules.{rule_of, Formed};
+ghost use Rattle.std.specs.Prelude.{◌≡◌, IfOk};
+ghost use Rattle.rules.specs.Local.{the_rule};
+ghost use Rattle.rules.specs.Rules.{rule_of};
 
 use crate::back::find_way_back;
 use crate::cells::{MOST_KINDS, read_cells};
-use crate::fault::Fault;
-use crate::options::{Asked, Name, Options, Source, parse_options};
+use crate::fault::{BadTable, Fault};
+use crate::options::{Mode, Name, Options, Source, parse_options};
 use crate::random::random_cells;
+use crate::ring_row::RingRow;
 use crate::words::new_rule;
 use answers::answer::table_cells;
 use answers::given::GivenRule;
-use ring::{Held, NoRing, step, steps};
+use ring::{NoRing, RingRule};
 use rules::local::LocalRule;
-use rules::rule::{MOST_WINDOWS, NoRule, check_rule, check_way_back};
-use std::alloc::{AllocError, Global};
-use std::io::{Read, Write};
-use std::mem;
-use text::print::{draw_cells, write_cells};
+use rules::rule::{MOST_WINDOWS, NoRule};
+use rules::sound::SoundRule;
+use std::io::Read;
 
 // Two rows of so many cells, a line of text and the largest table fit in 4 MiB.
 const MOST_CELLS: usize = 262_144;
@@ -43,8 +43,8 @@ one digit a cell, 0 to 9 and a to f.
 // Carries out the arguments of `run`. Nothing is printed before all of them are found to be in order.
 pub fn run(rt: &HostRuntime, args: &[String]) -> Result<(), Fault> {
     match parse_options(rt.alloc(), args)? {
-        Asked::Help => Ok(rt.print(USAGE)?),
-        Asked::Run(options) => run_options(rt, &options),
+        Some(options) => run_options(rt, &options),
+        None => Ok(rt.print(USAGE)?),
     }
 }
 
@@ -52,55 +52,65 @@ fn run_options(rt: &HostRuntime, options: &Options) -> Result<(), Fault> {
     let kinds = options.kinds;
     let wide = options.wide;
     let table = read_cells(rt.alloc(), Name::Table, MOST_KINDS, options.table.as_str())?;
-    if options.back {
-        return run_back(rt, options, new_rule(kinds, wide, table)?);
-    }
-    if let Err(reason) = check_table(options.place, kinds, wide, table.as_slice()) {
-        return Err(Fault::Rule {
+    let place = match options.mode {
+        Mode::Backwards => return run_back(rt, options, new_rule(kinds, wide, table)?),
+        Mode::Forwards => None,
+        Mode::WayBack(place) => Some(place),
+    };
+    let rule = ring_rule(place, kinds, wide, table.as_slice()).map_err(|reason| {
+        Fault::Table(BadTable {
             reason,
             kinds,
             wide,
-        });
+        })
+    })?;
+    run_rows(rt, rule, options)
+}
+
+// A table with a place is held to be a way back, and any other to be a rule.
+fn ring_rule(
+    place: Option<usize>,
+    kinds: u32,
+    wide: u32,
+    table: &[u32],
+) -> Result<RingRule<'_>, NoRule>
+    ensures { IfOk result (λ r. the_rule r.rule ≡ rule_of kinds wide table.now) }
+{
+    if kinds > MOST_KINDS {
+        return Err(NoRule::Large);
     }
-    let rule = LocalRule::new(kinds, wide, table.as_slice());
-    run_rows(rt, rule, options.place.unwrap_or(0), options)
+    let Some(place) = place else {
+        let sound = SoundRule::try_new(kinds, wide, table)?;
+        return Ok(RingRule::forwards(sound.local));
+    };
+    let rule = LocalRule::try_new(kinds, wide, table)?;
+    Ok(RingRule { rule, place })
 }
 
 // Runs the least way back of a rule.
 fn run_back(rt: &HostRuntime, options: &Options, given: GivenRule) -> Result<(), Fault> {
     let mut out = vec![in rt.alloc(); 0; MOST_WINDOWS]?;
     let told = find_way_back(rt.alloc(), &given, out.as_mut_slice())?;
-    let table = table_cells(given.kinds(), told.width, out.as_slice());
-    let back = LocalRule::new(given.kinds(), told.width, table);
-    run_rows(rt, back, told.place as usize, options)
+    let kinds = given.kinds();
+    let table = table_cells(kinds, told.width, out.as_slice());
+    let rule = LocalRule::new(kinds, told.width, table);
+    let place = told.place as usize;
+    run_rows(rt, RingRule { rule, place }, options)
 }
 
-// Runs a rule at place 0, or a way back at its place, on the row that is asked for.
-fn run_rows(
-    rt: &HostRuntime,
-    rule: LocalRule,
-    place: usize,
-    options: &Options,
-) -> Result<(), Fault> {
-    let row = first_row(rt, rule, &options.source)?;
+// Runs a rule, or a way back, on the row that is asked for.
+fn run_rows(rt: &HostRuntime, rule: RingRule, options: &Options) -> Result<(), Fault> {
+    let row = first_row(rt, rule.rule, &options.source)?;
+    let mut row = RingRow::new(rt.alloc(), row, options.alphabet)?;
     if options.last {
-        show_last(rt, rule, place, options, row)
-    } else {
-        show_rows(rt, rule, place, options, row)
+        row.steps(rule, options.steps)?;
+        return row.print(rt);
     }
-}
-
-// A table with a place is held to be a way back, and any other to be a rule.
-fn check_table(place: Option<usize>, kinds: u32, wide: u32, table: &[u32]) -> Result<(), NoRule>
-    ensures { OnOk result (Formed (rule_of kinds wide table.now)) }
-{
-    if kinds > MOST_KINDS {
-        return Err(NoRule::Large);
+    row.print(rt)?;
+    for _second in 0..options.steps {
+        row.step(rule)?;
+        row.print(rt)?;
     }
-    if place.is_some() {
-        return check_way_back(kinds, wide, table);
-    }
-    check_rule(kinds, wide, table)?;
     Ok(())
 }
 
@@ -128,63 +138,4 @@ fn first_row(rt: &HostRuntime, rule: LocalRule, source: &Source) -> Result<Vec<u
         return Err(Fault::LongRow);
     }
     Ok(row)
-}
-
-fn show_rows(
-    rt: &HostRuntime,
-    rule: LocalRule,
-    place: usize,
-    options: &Options,
-    row: Vec<u32>,
-) -> Result<(), Fault> {
-    let mut row = row;
-    let mut spare = row.clone()?;
-    let mut line = new_line(rt.alloc(), options.show, row.len())?;
-    print_row(rt, options.show, &mut line, row.as_slice())?;
-    for _second in 0..options.steps {
-        step(rule, place, row.as_slice(), spare.as_mut_slice())?;
-        mem::swap(&mut row, &mut spare);
-        print_row(rt, options.show, &mut line, row.as_slice())?;
-    }
-    Ok(())
-}
-
-fn show_last(
-    rt: &HostRuntime,
-    rule: LocalRule,
-    place: usize,
-    options: &Options,
-    row: Vec<u32>,
-) -> Result<(), Fault> {
-    let mut row = row;
-    let mut spare = row.clone()?;
-    let mut line = new_line(rt.alloc(), options.show, row.len())?;
-    match steps(
-        rule,
-        place,
-        options.steps,
-        row.as_mut_slice(),
-        spare.as_mut_slice(),
-    )? {
-        Held::Row => print_row(rt, options.show, &mut line, row.as_slice()),
-        Held::Spare => print_row(rt, options.show, &mut line, spare.as_slice()),
-    }
-}
-
-// A line that has room for a row and need not grow: a glyph has three bytes at most.
-fn new_line(heap: Global, show: bool, cells: usize) -> Result<String, AllocError> {
-    let bytes = if show { cells.saturating_mul(3) } else { cells };
-    String::with_capacity(heap, bytes.saturating_add(1))
-}
-
-// Prints a row on a line of its own, by a line that is used again and again.
-fn print_row(rt: &HostRuntime, show: bool, line: &mut String, row: &[u32]) -> Result<(), Fault> {
-    line.clear();
-    if show {
-        draw_cells(line, row)?;
-    } else {
-        write_cells(line, row)?;
-    }
-    line.push('\n')?;
-    Ok(rt.stdout().write_all(line.as_bytes())?)
 }

@@ -1,7 +1,7 @@
 // Words, and a rule that is given in them: KINDS WIDTH TABLE, or wolfram N.
 use crate::cells::{MOST_KINDS, read_cells};
-use crate::fault::Fault;
-use crate::options::{Name, number_u32};
+use crate::fault::{BadRule, BadTable, Fault};
+use crate::options::{Name, number};
 use answers::elementary::{ELEMENTARY_KINDS, ELEMENTARY_WIDTH, elementary_table};
 use answers::given::GivenRule;
 use std::alloc::{AllocError, Global};
@@ -11,11 +11,9 @@ const WOLFRAM: &str = "wolfram";
 
 // The words of a line.
 pub fn split_words(heap: Global, line: &str) -> Result<Vec<String>, AllocError> {
-    let mut words = Vec::new(heap);
-    for word in line.split_whitespace() {
-        words.push(String::from_str(heap, word)?)?;
-    }
-    Ok(words)
+    line.split_whitespace()
+        .map(|word| String::from_str(heap, word))
+        .try_collect(heap)
 }
 
 pub fn parse_rule(heap: Global, words: &[String]) -> Result<GivenRule, Fault> {
@@ -29,8 +27,8 @@ pub fn parse_rule(heap: Global, words: &[String]) -> Result<GivenRule, Fault> {
 }
 
 fn parse_table(heap: Global, kinds: &str, wide: &str, cells: &str) -> Result<GivenRule, Fault> {
-    let kinds = number_u32(heap, Name::Kinds, kinds)?;
-    let wide = number_u32(heap, Name::Width, wide)?;
+    let kinds = number(heap, Name::Kinds, kinds)?;
+    let wide = number(heap, Name::Width, wide)?;
     let table = read_cells(heap, Name::Table, MOST_KINDS, cells)?;
     new_rule(kinds, wide, table)
 }
@@ -45,12 +43,11 @@ fn parse_number(heap: Global, number: &str) -> Result<GivenRule, Fault> {
 
 // A rule, or what is wrong with its table.
 pub fn new_rule(kinds: u32, wide: u32, table: Vec<u32>) -> Result<GivenRule, Fault> {
-    match GivenRule::new(kinds, wide, table) {
-        Ok(given) => Ok(given),
-        Err(reason) => Err(Fault::NoRule {
+    GivenRule::new(kinds, wide, table).map_err(|reason| {
+        Fault::Rule(BadRule(BadTable {
             reason,
             kinds,
             wide,
-        }),
-    }
+        }))
+    })
 }

@@ -1,7 +1,8 @@
 // What `decide` says of a rule beside the second opinion.
 use crate::compared::Rule;
-use crate::endless_rows::are_twins;
+use crate::endless_rows::{Lengths, are_twins};
 use crate::opinion::Opinion;
+use crate::told::Told;
 use std::alloc::{AllocError, Global};
 use undone::Decided;
 
@@ -18,17 +19,21 @@ pub enum Outcome {
 pub fn compare_answer(
     heap: Global,
     rule: &Rule,
-    answer: Decided,
-    told: &[u32],
+    told: Told,
     opinion: &Opinion,
 ) -> Result<Outcome, AllocError> {
-    match answer {
-        Decided::Undone(width, place) => Ok(compare_way_back(width, place, told, opinion)),
+    match told.answer {
+        Decided::Undone(width, place) => Ok(compare_way_back(width, place, told.cells, opinion)),
         Decided::UndoneFull(width, place) => Ok(compare_way_back(width, place, &[], opinion)),
-        Decided::Orphan(length) => Ok(compare_orphan(length, told, opinion)),
+        Decided::Orphan(length) => Ok(compare_orphan(length, told.cells, opinion)),
         Decided::OrphanFull(length) => Ok(compare_orphan(length, &[], opinion)),
         Decided::Twins(left, middle, right) => {
-            let twins = are_twins(heap, rule, (left, middle, right), told)?;
+            let lengths = Lengths {
+                left,
+                middle,
+                right,
+            };
+            let twins = are_twins(heap, rule, lengths, told.cells)?;
             Ok(compare_twins(twins, opinion))
         }
         Decided::TwinsFull | Decided::NoRule | Decided::Few => Ok(Outcome::Disagrees),
@@ -40,10 +45,11 @@ fn compare_way_back(width: u32, place: u32, told: &[u32], opinion: &Opinion) -> 
         return Outcome::Disagrees;
     }
     match &opinion.way_back {
-        Some(way) => agrees_if(
-            way.width == width && way.place == place && told.starts_with(way.table.as_slice()),
-        ),
-        None => not_far_if(!opinion.tried_width(width)),
+        Some(way)
+            if way.width == width && way.place == place && told.starts_with(way.table.as_slice()) =>
+            { Outcome::Agrees }
+        None if !opinion.tried_width(width) => Outcome::NotFar,
+        _ => Outcome::Disagrees,
     }
 }
 
@@ -52,8 +58,11 @@ fn compare_orphan(length: usize, told: &[u32], opinion: &Opinion) -> Outcome {
         return Outcome::Disagrees;
     }
     match &opinion.orphan {
-        Some(orphan) => agrees_if(orphan.len() == length && told.starts_with(orphan.as_slice())),
-        None => not_far_if(!opinion.tried_piece(length)),
+        Some(orphan) if orphan.len() == length && told.starts_with(orphan.as_slice()) => {
+            Outcome::Agrees
+        }
+        None if !opinion.tried_piece(length) => Outcome::NotFar,
+        _ => Outcome::Disagrees,
     }
 }
 
@@ -61,24 +70,8 @@ fn compare_twins(twins: bool, opinion: &Opinion) -> Outcome {
     if !twins || opinion.way_back.is_some() || opinion.orphan.is_some() {
         return Outcome::Disagrees;
     }
-    match &opinion.rounds {
+    match opinion.rounds {
         Some(_) => Outcome::Agrees,
         None => Outcome::NotFar,
-    }
-}
-
-fn agrees_if(same: bool) -> Outcome {
-    if same {
-        Outcome::Agrees
-    } else {
-        Outcome::Disagrees
-    }
-}
-
-fn not_far_if(untried: bool) -> Outcome {
-    if untried {
-        Outcome::NotFar
-    } else {
-        Outcome::Disagrees
     }
 }

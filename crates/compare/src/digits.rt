@@ -10,8 +10,7 @@ pub struct Cells<'a>(pub &'a [u32]);
 
 impl fmt::Display for Cells<'_> {
     fn fmt<W: fmt::Write>(&self, f: &mut fmt::Formatter<W>) -> fmt::Result {
-        for cell in self.0 {
-            let cell = *cell;
+        for &cell in self.0 {
             write!(f, "{cell:x}")?;
         }
         Ok(())
@@ -27,23 +26,25 @@ pub fn cells_of(
 ) -> Result<Vec<u32>, AllocError>
     requires { 0 < kinds }
 {
-    let mut cells = Vec::new(heap);
-    let mut rest = number as u64;
-    for _place in 0..length {
-        cells.push((rest % u64::from(kinds)) as u32)?;
-        rest /= u64::from(kinds);
-    }
-    cells.reverse();
-    Ok(cells)
+    (0..length)
+        .rev()
+        .map(|place| digit(kinds, number, place))
+        .collect(heap)
+}
+
+// The digit of a number that stands so many places before its last.
+fn digit(kinds: u32, number: usize, place: u32) -> u32
+    requires { 0 < kinds }
+{
+    let kinds = kinds as usize;
+    let weight = kinds.checked_pow(place).unwrap_or(0);
+    (number.checked_div(weight).unwrap_or(0) % kinds) as u32
 }
 
 // The number of some cells, modulo 2^64.
 pub fn number_of(kinds: u32, cells: &[u32]) -> usize {
-    let mut number = 0usize;
-    for cell in cells {
-        number = number
-            .wrapping_mul(kinds as usize)
-            .wrapping_add(*cell as usize);
-    }
-    number
+    let kinds = kinds as usize;
+    cells.iter().fold(0usize, |number, cell| {
+        number.wrapping_mul(kinds).wrapping_add(*cell as usize)
+    })
 }

@@ -18,7 +18,7 @@ const SHAPES: [(u32, u32); 8] = [
     (4, 3),
 ];
 
-// How a table is drawn.
+// How a table is drawn: a name, since a table of functions would owe that each of them may be called.
 #[derive(Clone, Copy)]
 enum Form {
     Any,
@@ -43,169 +43,167 @@ const FORMS: [Form; 8] = [
 pub fn drawn_rules(heap: Global, count: usize, seed: u64) -> Result<Vec<Rule>, AllocError> {
     let mut random = Random::new(seed);
     let mut rules = Vec::new(heap);
-    for i in 0..count {
+    for &form in FORMS.iter().cycle().take(count) {
         let (kinds, wide) = SHAPES[random.below(8) as usize];
-        let table = draw_table(heap, FORMS[i % 8], kinds, wide, &mut random)?;
+        let mut drawing = Drawing {
+            heap,
+            kinds,
+            wide,
+            random: &mut random,
+        };
+        let table = drawing.table(form)?;
         rules.push(Rule { kinds, wide, table })?;
     }
     Ok(rules)
 }
 
-fn draw_table(
-    heap: Global,
-    form: Form,
-    kinds: u32,
-    wide: u32,
-    random: &mut Random,
-) -> Result<Vec<u32>, AllocError>
-    requires { 1 < kinds }
-{
-    match form {
-        Form::Any => draw_cells(heap, kinds, wide, random),
-        Form::Permutive => draw_permutive(heap, kinds, wide, random),
-        Form::NearPermutive => draw_near_permutive(heap, kinds, wide, random),
-        Form::Conditional => draw_conditional(heap, kinds, wide, random),
-    }
-}
-
-fn draw_cells(
+// What the table of a rule is drawn with.
+#[derive(Drop)]
+struct Drawing<'a> {
     heap: Global,
     kinds: u32,
     wide: u32,
-    random: &mut Random,
-) -> Result<Vec<u32>, AllocError>
-    requires { 0 < kinds }
-{
-    let mut table = Vec::new(heap);
-    for _window in 0..kinds.saturating_pow(wide) {
-        table.push(random.below(kinds))?;
-    }
-    Ok(table)
+    random: &'a mut Random,
+    ghost several: { 1 < kinds },
 }
 
-// A permutation of the kinds for each block of the other cells: at the last cell of the window, or at the first.
-fn draw_permutive(
-    heap: Global,
-    kinds: u32,
-    wide: u32,
-    random: &mut Random,
-) -> Result<Vec<u32>, AllocError>
-    requires { 0 < kinds }
-{
-    let mut table = Vec::new(heap);
-    for _block in 0..kinds.saturating_pow(wide.saturating_sub(1)) {
-        table.extend_from_slice(draw_permutation(heap, kinds, random)?.as_slice())?;
-    }
-    if random.below(2) == 0 {
-        return Ok(table);
-    }
-    turn(heap, kinds, table.as_slice())
-}
-
-// Each kind in turn is put at a place among those before it.
-fn draw_permutation(heap: Global, kinds: u32, random: &mut Random) -> Result<Vec<u32>, AllocError> {
-    let mut permutation = Vec::new(heap);
-    for kind in 0..kinds {
-        permutation.insert(random.below(kind + 1) as usize, kind)?;
-    }
-    Ok(permutation)
-}
-
-// The table of the same rule but for its last cell, which comes first.
-fn turn(heap: Global, kinds: u32, table: &[u32]) -> Result<Vec<u32>, AllocError>
-    requires { 0 < kinds }
-{
-    let kinds = kinds as usize;
-    let mut turned = Vec::new(heap);
-    for cell in 0..kinds {
-        turned.extend(table.iter().skip(cell).step_by(kinds).copied())?;
-    }
-    Ok(turned)
-}
-
-// A permutive table in which one or two cells are changed.
-fn draw_near_permutive(
-    heap: Global,
-    kinds: u32,
-    wide: u32,
-    random: &mut Random,
-) -> Result<Vec<u32>, AllocError>
-    requires { 1 < kinds }
-{
-    let mut table = draw_permutive(heap, kinds, wide, random)?;
-    for _change in 0..random.below(2) + 1 {
-        let window = random.below(kinds.saturating_pow(wide).max(1));
-        if let Some(cell) = table.get_mut(window as usize) {
-            *cell = another(*cell, kinds, random);
+impl Drawing<'_> {
+    fn table(&mut self, form: Form) -> Result<Vec<u32>, AllocError> {
+        match form {
+            Form::Any => self.any(),
+            Form::Permutive => self.permutive(),
+            Form::NearPermutive => self.near_permutive(),
+            Form::Conditional => self.conditional(),
         }
     }
-    Ok(table)
-}
 
-// Any kind but this one.
-fn another(kind: u32, kinds: u32, random: &mut Random) -> u32
-    requires { 1 < kinds }
-{
-    kind.wrapping_add(1).wrapping_add(random.below(kinds - 1)) % kinds
+    fn windows(&self) -> u32 {
+        self.kinds.saturating_pow(self.wide)
+    }
+
+    fn cell(&mut self) -> u32 {
+        self.random.below(self.kinds)
+    }
+
+    // Any kind but this one.
+    fn another(&mut self, kind: u32) -> u32 {
+        let further = self.random.below(self.kinds - 1);
+        kind.wrapping_add(1).wrapping_add(further) % self.kinds
+    }
+
+    fn any(&mut self) -> Result<Vec<u32>, AllocError> {
+        let heap = self.heap;
+        (0..self.windows()).map(|_| self.cell()).collect(heap)
+    }
+
+    // A permutation of the kinds for each block of the other cells: at the last cell of the window, or at the first.
+    fn permutive(&mut self) -> Result<Vec<u32>, AllocError> {
+        let mut table = Vec::new(self.heap);
+        for _block in 0..self.kinds.saturating_pow(self.wide.saturating_sub(1)) {
+            table.extend_from_slice(self.permutation()?.as_slice())?;
+        }
+        if self.random.below(2) == 0 {
+            return Ok(table);
+        }
+        self.turn(table.as_slice())
+    }
+
+    // Each kind in turn is put at a place among those before it.
+    fn permutation(&mut self) -> Result<Vec<u32>, AllocError> {
+        let mut permutation = Vec::new(self.heap);
+        for kind in 0..self.kinds {
+            permutation.insert(self.random.below(kind + 1) as usize, kind)?;
+        }
+        Ok(permutation)
+    }
+
+    // The table of the same rule but for its last cell, which comes first.
+    fn turn(&self, table: &[u32]) -> Result<Vec<u32>, AllocError> {
+        let kinds = self.kinds as usize;
+        (0..kinds)
+            .flat_map(
+                |cell: usize|
+                    requires { 0 < kinds }
+                { table.iter().skip(cell).step_by(kinds).copied() },
+            )
+            .collect(self.heap)
+    }
+
+    // A permutive table in which one or two cells are changed.
+    fn near_permutive(&mut self) -> Result<Vec<u32>, AllocError> {
+        let mut table = self.permutive()?;
+        let windows = self.windows().max(1);
+        for _change in 0..self.random.below(2) + 1 {
+            let window = self.random.below(windows);
+            if let Some(cell) = table.get_mut(window as usize) {
+                *cell = self.another(*cell);
+            }
+        }
+        Ok(table)
+    }
+
+    // The table of an exchange.
+    fn conditional(&mut self) -> Result<Vec<u32>, AllocError> {
+        let exchange = self.exchange()?;
+        (0..self.windows())
+            .map(|number| exchange.cell_of(self, number))
+            .try_collect(self.heap)
+    }
+
+    fn exchange(&mut self) -> Result<Exchange, AllocError> {
+        let place = self.random.below(self.wide.max(1)) as usize;
+        let one = self.cell();
+        let other = self.another(one);
+        let condition = self.condition(place)?;
+        Ok(Exchange {
+            place,
+            one,
+            other,
+            condition,
+        })
+    }
+
+    // For each place of a window, but for one, a kind that it has to be, or any.
+    fn condition(&mut self, but: usize) -> Result<Vec<Option<u32>>, AllocError> {
+        let heap = self.heap;
+        (0..self.wide as usize)
+            .map(|place| self.wanted(place != but))
+            .collect(heap)
+    }
+
+    fn wanted(&mut self, may_be_asked: bool) -> Option<u32> {
+        if may_be_asked && self.random.below(2) == 0 {
+            return Some(self.cell());
+        }
+        None
+    }
 }
 
 // One cell of the window, with two kinds exchanged where the window has certain cells at certain places.
-fn draw_conditional(
-    heap: Global,
-    kinds: u32,
-    wide: u32,
-    random: &mut Random,
-) -> Result<Vec<u32>, AllocError>
-    requires { 1 < kinds }
-{
-    let place = random.below(wide.max(1)) as usize;
-    let one = random.below(kinds);
-    let other = another(one, kinds, random);
-    let condition = draw_condition(heap, kinds, wide, place, random)?;
-    let mut table = Vec::new(heap);
-    for number in 0..kinds.saturating_pow(wide) {
-        let window = cells_of(heap, kinds, wide, number as usize)?;
-        let cell = window.get(place).copied().unwrap_or(0);
-        let changed = holds(condition.as_slice(), window.as_slice());
-        table.push(match cell {
-            _ if !changed => cell,
-            kind if kind == one => other,
-            kind if kind == other => one,
+#[derive(Drop)]
+struct Exchange {
+    place: usize,
+    one: u32,
+    other: u32,
+    condition: Vec<Option<u32>>,
+}
+
+impl Exchange {
+    fn cell_of(&self, drawing: &Drawing, number: u32) -> Result<u32, AllocError> {
+        let window = cells_of(drawing.heap, drawing.kinds, drawing.wide, number as usize)?;
+        let cell = window.get(self.place).copied().unwrap_or(0);
+        Ok(match cell {
+            _ if !self.holds(window.as_slice()) => cell,
+            kind if kind == self.one => self.other,
+            kind if kind == self.other => self.one,
             kind => kind,
-        })?;
+        })
     }
-    Ok(table)
-}
 
-// For each place of a window, but for one, a kind that it has to be, or any.
-fn draw_condition(
-    heap: Global,
-    kinds: u32,
-    wide: u32,
-    but: usize,
-    random: &mut Random,
-) -> Result<Vec<Option<u32>>, AllocError>
-    requires { 0 < kinds }
-{
-    let mut condition = Vec::new(heap);
-    for place in 0..wide as usize {
-        let asked = place != but && random.below(2) == 0;
-        condition.push(if asked {
-            Some(random.below(kinds))
-        } else {
-            None
-        })?;
+    fn holds(&self, window: &[u32]) -> bool {
+        self.condition
+            .iter()
+            .zip(window)
+            .all(|(wanted, cell)| wanted.is_none_or(|kind| kind == *cell))
     }
-    Ok(condition)
-}
-
-fn holds(condition: &[Option<u32>], window: &[u32]) -> bool {
-    for (wanted, cell) in condition.iter().zip(window) {
-        if let Some(kind) = wanted
-            && kind != cell
-        {
-            return false;
-        }
-    }
-    true
 }

@@ -42,15 +42,16 @@ impl Room {
 
     // Begins with the pieces of one cell less than a window: their next rows are empty.
     pub fn begin(&mut self, rule: &Rule) {
-        for next in self.nexts.iter_mut().take(rule.table.len()) {
-            *next = 0;
-        }
+        let pieces = rule.table.len().min(self.nexts.len());
+        self.nexts.as_mut_slice()[..pieces].fill(0);
     }
 
     // Goes on from next rows of one cell less to those of `next_length` cells, unless the pieces are too many.
-    pub fn lengthen(&mut self, rule: &Rule, next_length: u32) -> bool {
-        if count(rule, next_length) > MOST_PIECES {
-            return false;
+    pub fn lengthen(&mut self, rule: &Rule, next_length: u32) -> Option<Pieces<'_>> {
+        let length = next_length.saturating_add(rule.wide).saturating_sub(1);
+        let count = rule.kinds.saturating_pow(length);
+        if count > MOST_PIECES {
+            return None;
         }
         mem::swap(&mut self.nexts, &mut self.shorter);
         let rows = rule.kinds.saturating_pow(next_length.saturating_sub(1));
@@ -60,26 +61,13 @@ impl Room {
             self.shorter.as_slice(),
             self.nexts.as_mut_slice(),
         );
-        true
-    }
-
-    pub fn pieces(&self, rule: &Rule, next_length: u32) -> Pieces<'_> {
-        let count = count(rule, next_length) as usize;
-        Pieces {
+        Some(Pieces {
             kinds: rule.kinds,
-            length: piece_length(rule, next_length),
+            length,
             next_length,
-            nexts: self.nexts.as_slice().get(0..count).unwrap_or(&[]),
-        }
+            nexts: self.nexts.as_slice().get(..count as usize)?,
+        })
     }
-}
-
-fn piece_length(rule: &Rule, next_length: u32) -> u32 {
-    next_length.saturating_add(rule.wide).saturating_sub(1)
-}
-
-fn count(rule: &Rule, next_length: u32) -> u32 {
-    rule.kinds.saturating_pow(piece_length(rule, next_length))
 }
 
 // Puts each cell in front of each shorter piece. `rows` are as long as the shorter pieces' next rows.

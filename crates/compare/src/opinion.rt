@@ -15,7 +15,7 @@ const LONGEST_ROUND: u32 = 6;
 const LONGEST_PIECE: u32 = 9;
 
 // What was found of a rule, each the first of its kind, and up to which length of next rows it was looked for.
-#[derive(Drop)]
+#[derive(Default, Drop)]
 pub struct Opinion {
     pub way_back: Option<WayBack>,
     pub orphan: Option<Vec<u32>>,
@@ -52,17 +52,13 @@ impl Opinion {
 
 impl fmt::Display for Opinion {
     fn fmt<W: fmt::Write>(&self, f: &mut fmt::Formatter<W>) -> fmt::Result {
-        let reach = self.reach;
-        write!(f, "up to {reach} cells")?;
+        write!(f, "up to {} cells", self.reach)?;
         if let Some(way) = &self.way_back {
-            let width = way.width;
-            let place = way.place;
             let table = Cells(way.table.as_slice());
-            write!(f, ", undone {width} {place} {table}")?;
+            write!(f, ", undone {} {} {table}", way.width, way.place)?;
         }
         if let Some(orphan) = &self.orphan {
-            let orphan = Cells(orphan.as_slice());
-            write!(f, ", orphan {orphan}")?;
+            write!(f, ", orphan {}", Cells(orphan.as_slice()))?;
         }
         if let Some(rounds) = &self.rounds {
             let one = Cells(rounds.one.as_slice());
@@ -75,19 +71,16 @@ impl fmt::Display for Opinion {
 
 // Looks at longer and longer next rows; once an orphan is known, no further than there are rows by rounds.
 pub fn form_opinion(heap: Global, rule: &Rule, room: &mut Room) -> Result<Opinion, AllocError> {
-    let mut opinion = Opinion {
-        way_back: None,
-        orphan: None,
-        rounds: None,
-        reach: 0,
-    };
+    let mut opinion = Opinion::default();
     room.begin(rule);
-    for length in 1..LONGEST_PIECE + 1 {
-        let found = opinion.orphan.is_some() && length > LONGEST_ROUND;
-        if found || !room.lengthen(rule, length) {
+    for length in 1..=LONGEST_PIECE {
+        if opinion.orphan.is_some() && length > LONGEST_ROUND {
             break;
         }
-        opinion.look(heap, room.pieces(rule, length))?;
+        let Some(pieces) = room.lengthen(rule, length) else {
+            break;
+        };
+        opinion.look(heap, pieces)?;
     }
     Ok(opinion)
 }

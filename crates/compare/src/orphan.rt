@@ -7,10 +7,10 @@ use std::alloc::{AllocError, Global};
 pub fn find_orphan(heap: Global, pieces: Pieces) -> Result<Option<Vec<u32>>, AllocError> {
     let mut marks = vec![in heap; false; pieces.rows()]?;
     mark_nexts(pieces, marks.as_mut_slice());
-    match first_unmarked(marks.as_slice()) {
-        Some(row) => Ok(Some(cells_of(heap, pieces.kinds, pieces.next_length, row)?)),
-        None => Ok(None),
-    }
+    let first = marks.iter().position(|mark| !*mark);
+    first
+        .map(|row| cells_of(heap, pieces.kinds, pieces.next_length, row))
+        .transpose()
 }
 
 fn mark_nexts(pieces: Pieces, marks: &mut [bool]) {
@@ -19,13 +19,4 @@ fn mark_nexts(pieces: Pieces, marks: &mut [bool]) {
             *mark = true;
         }
     }
-}
-
-fn first_unmarked(marks: &[bool]) -> Option<usize> {
-    for (row, mark) in marks.iter().enumerate() {
-        if !*mark {
-            return Some(row);
-        }
-    }
-    None
 }

@@ -13,6 +13,7 @@ pub struct Rounds {
 // The first two rows, as long as the pieces' next rows, that have one next row on the ring.
 pub fn find_rounds(heap: Global, pieces: Pieces) -> Result<Option<Rounds>, AllocError> {
     let mut firsts = vec![in heap; None; pieces.rows()]?;
+    // A `for`, which carries the `?` out of the search.
     for row in 0..pieces.rows() {
         if let Some(first) = same_next(pieces, row, firsts.as_mut_slice()) {
             return Ok(Some(Rounds {
@@ -27,12 +28,8 @@ pub fn find_rounds(heap: Global, pieces: Pieces) -> Result<Option<Rounds>, Alloc
 // The first row with the same next row on the ring as `row`, if there is one before it; else `row` is noted as the first.
 fn same_next(pieces: Pieces, row: usize, firsts: &mut [Option<usize>]) -> Option<usize> {
     let next = pieces.nexts.get(unroll(pieces, row))?;
-    let first = firsts.get_mut(*next as usize)?;
-    if first.is_none() {
-        *first = Some(row);
-        return None;
-    }
-    *first
+    let first = *firsts.get_mut(*next as usize)?.get_or_insert(row);
+    (first != row).then_some(first)
 }
 
 // The piece that is seen from a row on the ring: behind its last cell come its first ones again. The cell to come is the one
@@ -40,10 +37,8 @@ fn same_next(pieces: Pieces, row: usize, firsts: &mut [Option<usize>]) -> Option
 fn unroll(pieces: Pieces, row: usize) -> usize {
     let kinds = pieces.kinds as usize;
     let weight = kinds.saturating_pow(pieces.next_length.saturating_sub(1));
-    let mut piece = row;
-    for _more in pieces.next_length..pieces.length {
+    (pieces.next_length..pieces.length).fold(row, |piece, _| {
         let cell = piece.checked_div(weight).unwrap_or(0) % kinds;
-        piece = piece.wrapping_mul(kinds).wrapping_add(cell);
-    }
-    piece
+        piece.wrapping_mul(kinds).wrapping_add(cell)
+    })
 }

@@ -12,8 +12,7 @@ pub struct Told<'a> {
 }
 
 fn first(cells: &[u32], count: usize) -> Cells<'_> {
-    let first = cells.get(0..count).unwrap_or(&[]);
-    Cells(first)
+    Cells(cells.get(..count).unwrap_or(&[]))
 }
 
 impl fmt::Display for Told<'_> {
@@ -28,10 +27,7 @@ impl fmt::Display for Told<'_> {
                 let rows = first(self.cells, row.saturating_mul(2));
                 write!(f, "twins {left} {middle} {right} {rows}")
             }
-            Decided::Orphan(length) => {
-                let orphan = first(self.cells, length);
-                write!(f, "orphan {orphan}")
-            }
+            Decided::Orphan(length) => write!(f, "orphan {}", first(self.cells, length)),
             Decided::UndoneFull(width, place) => write!(f, "undone {width} {place} full"),
             Decided::TwinsFull => write!(f, "twins full"),
             Decided::OrphanFull(length) => write!(f, "orphan of {length} cells"),

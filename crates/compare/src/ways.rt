@@ -12,10 +12,9 @@ pub struct WayBack {
 
 // The first place that the next rows tell.
 pub fn find_way_back(heap: Global, pieces: Pieces) -> Result<Option<WayBack>, AllocError> {
+    // A `for`, which carries the `?` out of the search.
     for place in 0..pieces.length {
-        // A number that is no cell stands where no piece has come yet. Were it left, that row would be an orphan as well.
-        let mut table = vec![in heap; pieces.kinds; pieces.rows()]?;
-        if tells(pieces, place, table.as_mut_slice()) {
+        if let Some(table) = told_cells(heap, pieces, place)? {
             return Ok(Some(WayBack {
                 width: pieces.next_length,
                 place,
@@ -26,22 +25,23 @@ pub fn find_way_back(heap: Global, pieces: Pieces) -> Result<Option<WayBack>, Al
     Ok(None)
 }
 
-// Whether no two pieces of one next row have different cells at a place; the table gets these cells.
-fn tells(pieces: Pieces, place: u32, table: &mut [u32]) -> bool {
+// The cell at a place that each next row tells, unless two pieces of one next row have different cells there. A number that is no
+// cell stands where no piece has the next row; such a row is found as an orphan as well.
+fn told_cells(heap: Global, pieces: Pieces, place: u32) -> Result<Option<Vec<u32>>, AllocError> {
     let behind = pieces.length.saturating_sub(place).saturating_sub(1);
     let weight = pieces.kinds.saturating_pow(behind) as usize;
     if weight == 0 {
-        return false;
+        return Ok(None);
     }
+    let mut told = vec![in heap; None; pieces.rows()]?;
     for (piece, next) in pieces.nexts.iter().enumerate() {
-        let cell = piece / weight % pieces.kinds as usize;
-        if let Some(told) = table.get_mut(*next as usize) {
-            if *told == pieces.kinds {
-                *told = cell as u32;
-            } else if *told as usize != cell {
-                return false;
-            }
+        let cell = (piece / weight % pieces.kinds as usize) as u32;
+        if let Some(first) = told.get_mut(*next as usize)
+            && *first.get_or_insert(cell) != cell
+        {
+            return Ok(None);
         }
     }
-    true
+    let table = told.iter().map(|cell| cell.unwrap_or(pieces.kinds));
+    Ok(Some(table.collect(heap)?))
 }

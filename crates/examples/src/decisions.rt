@@ -17,21 +17,17 @@ fn answer(
     Ok((answer, out))
 }
 
-fn begins(cells: &[u32], with: &[u32]) -> bool {
-    cells.len() >= with.len() && &cells[0..with.len()] == with
-}
-
 #[test]
 fn undone(rt: HostRuntime) -> Result<(), Fail> {
     let (second, out) = answer(&rt, 2, 2, &SECOND, 4)?;
     assert_eq!(rt; second, Decided::Undone(1, 1));
-    assert!(rt; begins(out.as_slice(), &[0, 1, 7, 7]));
+    assert!(rt; out.starts_with(&[0, 1, 7, 7]));
     let (turned, out) = answer(&rt, 4, 2, &OWN_BACK, 16)?;
     assert_eq!(rt; turned, Decided::Undone(2, 0));
-    assert!(rt; begins(out.as_slice(), &OWN_BACK));
+    assert!(rt; out.starts_with(&OWN_BACK));
     let (halves, out) = answer(&rt, 16, 2, &halves(), 256)?;
     assert_eq!(rt; halves, Decided::Undone(2, 1));
-    assert!(rt; begins(out.as_slice(), &halves_back()));
+    assert!(rt; out.starts_with(&halves_back()));
     Ok(())
 }
 
@@ -40,10 +36,10 @@ fn undone(rt: HostRuntime) -> Result<(), Fail> {
 fn undone_full(rt: HostRuntime) -> Result<(), Fail> {
     let (turned, out) = answer(&rt, 4, 2, &OWN_BACK, 15)?;
     assert_eq!(rt; turned, Decided::UndoneFull(2, 0));
-    assert!(rt; begins(out.as_slice(), &[7; 15]));
+    assert!(rt; out.starts_with(&[7; 15]));
     let (long, out) = answer(&rt, 16, 2, &chain(), 8)?;
     assert_eq!(rt; long, Decided::UndoneFull(8, 0));
-    assert!(rt; begins(out.as_slice(), &[7; 8]));
+    assert!(rt; out.starts_with(&[7; 8]));
     Ok(())
 }
 
@@ -51,16 +47,16 @@ fn undone_full(rt: HostRuntime) -> Result<(), Fail> {
 fn orphans(rt: HostRuntime) -> Result<(), Fail> {
     let (both, out) = answer(&rt, 2, 2, &BOTH, 5)?;
     assert_eq!(rt; both, Decided::Orphan(3));
-    assert!(rt; begins(out.as_slice(), &[1, 0, 1, 7, 7]));
+    assert!(rt; out.starts_with(&[1, 0, 1, 7, 7]));
     let (none, out) = answer(&rt, 2, 2, &[0; 4], 1)?;
     assert_eq!(rt; none, Decided::Orphan(1));
-    assert!(rt; begins(out.as_slice(), &[1]));
+    assert!(rt; out.starts_with(&[1]));
     let (long, out) = answer(&rt, 2, 4, &TURNED, 6)?;
     assert_eq!(rt; long, Decided::Orphan(6));
-    assert!(rt; begins(out.as_slice(), &[1, 1, 1, 0, 0, 1]));
+    assert!(rt; out.starts_with(&[1, 1, 1, 0, 0, 1]));
     let (full, out) = answer(&rt, 2, 4, &TURNED, 5)?;
     assert_eq!(rt; full, Decided::OrphanFull(6));
-    assert!(rt; begins(out.as_slice(), &[7; 5]));
+    assert!(rt; out.starts_with(&[7; 5]));
     Ok(())
 }
 
@@ -68,10 +64,10 @@ fn orphans(rt: HostRuntime) -> Result<(), Fail> {
 fn twins(rt: HostRuntime) -> Result<(), Fail> {
     let (sum, out) = answer(&rt, 2, 2, &SUM, 4096)?;
     assert!(rt; matches!(sum, Decided::Twins(_, _, _)));
-    assert!(rt; !begins(out.as_slice(), &[7]));
+    assert!(rt; !out.starts_with(&[7]));
     let (three, out) = answer(&rt, 3, 2, &SUM_OF_THREE, 4095)?;
     assert_eq!(rt; three, Decided::TwinsFull);
-    assert!(rt; begins(out.as_slice(), &[7; 100]));
+    assert!(rt; out.starts_with(&[7; 100]));
     Ok(())
 }
 

@@ -6,4 +6,8 @@ mod decisions;
 #[cfg(test)]
 mod parts;
 #[cfg(test)]
+mod rings;
+#[cfg(test)]
 mod worked;
+#[cfg(test)]
+mod workspaces;

@@ -1,11 +1,13 @@
 // Which tables are rules, the next rows of pieces, and sets of blocks, by example.
 use crate::worked::*;
+use orphans::automaton::SubsetSteps;
 use orphans::sets::BlockSet;
 use orphans::subsets::{Subsets, write_masks};
 use rules::cells::Kind;
 use rules::local::LocalRule;
 use rules::row::{NoRow, next_row};
-use rules::rule::{NoRule, check_rule, check_way_back};
+use rules::rule::NoRule;
+use rules::sound::SoundRule;
 use std::test::Fail;
 
 // The next row of a piece by a table that fits.
@@ -16,41 +18,52 @@ fn next_by(
     row: &[u32],
     out: &mut [u32],
 ) -> Result<Result<usize, NoRow>, NoRule> {
-    check_way_back(kinds, wide, table)?;
-    Ok(next_row(LocalRule::new(kinds, wide, table), row, out))
+    let rule = LocalRule::try_new(kinds, wide, table)?;
+    Ok(next_row(rule, row, out))
+}
+
+// How many blocks a rule to be decided has.
+fn rule_blocks(kinds: u32, wide: u32, table: &[u32]) -> Result<usize, NoRule> {
+    Ok(SoundRule::try_new(kinds, wide, table)?.local.blocks())
+}
+
+// Whether a table can be run as a way back.
+fn check_way_back(kinds: u32, wide: u32, table: &[u32]) -> Result<(), NoRule> {
+    LocalRule::try_new(kinds, wide, table)?;
+    Ok(())
 }
 
 #[test]
 fn rules(rt: HostRuntime) {
-    assert_eq!(rt; check_rule(2, 2, &SECOND), Ok(2));
-    assert_eq!(rt; check_rule(2, 2, &SUM), Ok(2));
-    assert_eq!(rt; check_rule(2, 2, &BOTH), Ok(2));
-    assert_eq!(rt; check_rule(4, 2, &OWN_BACK), Ok(4));
-    assert_eq!(rt; check_rule(2, 2, &[0; 4]), Ok(2));
-    assert_eq!(rt; check_rule(3, 2, &SUM_OF_THREE), Ok(3));
-    assert_eq!(rt; check_rule(2, 4, &TURNED), Ok(8));
-    assert_eq!(rt; check_rule(16, 2, &halves()), Ok(16));
+    assert_eq!(rt; rule_blocks(2, 2, &SECOND), Ok(2));
+    assert_eq!(rt; rule_blocks(2, 2, &SUM), Ok(2));
+    assert_eq!(rt; rule_blocks(2, 2, &BOTH), Ok(2));
+    assert_eq!(rt; rule_blocks(4, 2, &OWN_BACK), Ok(4));
+    assert_eq!(rt; rule_blocks(2, 2, &[0; 4]), Ok(2));
+    assert_eq!(rt; rule_blocks(3, 2, &SUM_OF_THREE), Ok(3));
+    assert_eq!(rt; rule_blocks(2, 4, &TURNED), Ok(8));
+    assert_eq!(rt; rule_blocks(16, 2, &halves()), Ok(16));
 }
 
 #[test]
 fn no_rules(rt: HostRuntime) {
-    assert_eq!(rt; check_rule(1, 2, &[0]), Err(NoRule::FewKinds));
-    assert_eq!(rt; check_rule(2, 1, &[0, 1]), Err(NoRule::Narrow));
-    assert_eq!(rt; check_rule(17, 2, &[]), Err(NoRule::Large));
-    assert_eq!(rt; check_rule(2, 6, &[]), Err(NoRule::Large));
-    assert_eq!(rt; check_rule(2, u32::MAX, &[]), Err(NoRule::Large));
+    assert_eq!(rt; rule_blocks(1, 2, &[0]), Err(NoRule::FewKinds));
+    assert_eq!(rt; rule_blocks(2, 1, &[0, 1]), Err(NoRule::Narrow));
+    assert_eq!(rt; rule_blocks(17, 2, &[]), Err(NoRule::Large));
+    assert_eq!(rt; rule_blocks(2, 6, &[]), Err(NoRule::Large));
+    assert_eq!(rt; rule_blocks(2, u32::MAX, &[]), Err(NoRule::Large));
     let short = NoRule::Length {
         wanted: 4,
         found: 3,
     };
-    assert_eq!(rt; check_rule(2, 2, &[0, 1, 1]), Err(short));
+    assert_eq!(rt; rule_blocks(2, 2, &[0, 1, 1]), Err(short));
     let long = NoRule::Length {
         wanted: 4,
         found: 5,
     };
-    assert_eq!(rt; check_rule(2, 2, &[0, 1, 1, 0, 0]), Err(long));
+    assert_eq!(rt; rule_blocks(2, 2, &[0, 1, 1, 0, 0]), Err(long));
     let place = NoRule::NoKind { place: 1 };
-    assert_eq!(rt; check_rule(2, 2, &[0, 2, 1, 2]), Err(place));
+    assert_eq!(rt; rule_blocks(2, 2, &[0, 2, 1, 2]), Err(place));
 }
 
 #[test]
@@ -107,8 +120,7 @@ fn sets(rt: HostRuntime) {
 
 // After how many kinds of a word no block is left, for a rule of at most 16 windows.
 fn emptied_by(kinds: u32, wide: u32, table: &[u32], word: &[u32]) -> Result<Option<usize>, NoRule> {
-    check_rule(kinds, wide, table)?;
-    let rule = LocalRule::new(kinds, wide, table);
+    let rule = SoundRule::try_new(kinds, wide, table)?.local;
     let mut work = [7; 20];
     if table.len() > 16 {
         return Ok(None);
@@ -130,9 +142,9 @@ fn emptied_by(kinds: u32, wide: u32, table: &[u32], word: &[u32]) -> Result<Opti
 
 #[test]
 fn masks(rt: HostRuntime) -> Result<(), Fail> {
-    check_rule(2, 2, &BOTH)?;
+    let rule = SoundRule::try_new(2, 2, &BOTH)?;
     let mut work = [7; 6];
-    write_masks(LocalRule::new(2, 2, &BOTH), &mut work, 1);
+    write_masks(rule.local, &mut work, 1);
     assert_eq!(rt; work, [7, 3, 0, 1, 2, 7]);
     Ok(())
 }

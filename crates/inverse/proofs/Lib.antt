@@ -1,3 +1,4 @@
+pub mod Ranges
 pub mod Widths
 pub mod Reading
 pub mod Prefixing

@@ -5,8 +5,8 @@ use native.Mathlib.Decide.{ℕ_discrete}
 use Rattle.std.proofs.lemmas.Nat.{mul-lt}
 use Rattle.std.proofs.ByRecursion.{All-take, All-drop}
 use Rattle.std.proofs.lemmas.Bool.{cases_lt, cases_eq}
-use Rattle.pairs.specs.declared.Direction.{Direction}
-use Rattle.pairs.specs.declared.Direction.TheVariants.{Past, Future}
+use Rattle.pairs.specs.declared.graph.Direction.{Direction}
+use Rattle.pairs.specs.declared.graph.Direction.TheVariants.{Past, Future}
 use Rattle.rules.specs.Rules.{Rule, Sound, Piece, blocks_of}
 use Rattle.theory.specs.Says.{OneNext, Tells, Back, NoneLess}
 use Rattle.pairs.specs.Pairs.{pairs_of, block_at, pair_at, Walk, Has, endless, Depth, Depths}

@@ -1,8 +1,8 @@
 -- The least way back, or why there is none.
-use Rattle.std.specs.Prelude.{◌≡◌, ℕ, ◌+◌, ◌-◌, ◌/◌, ◌%◌, ◌<◌, ◌≤◌}
-use Rattle.pairs.specs.declared.Direction.TheVariants.{Past, Future}
+use Rattle.std.specs.Prelude.{◌≡◌, ℕ, ◌+◌, ◌-◌, ◌/◌, ◌%◌, ◌<◌, ◌≤◌, Ok, Err, Result}
+use Rattle.pairs.specs.declared.graph.Direction.TheVariants.{Past, Future}
 use Rattle.inverse.specs.declared.WayBack.{WayBack}
-use Rattle.inverse.specs.declared.WayBack.TheVariants.{Told, Twins}
+use Rattle.inverse.specs.declared.TwinPair.{TwinPair}
 use Rattle.rules.specs.Rules.{Rule, blocks_of}
 use Rattle.theory.specs.Says.{Tells, NoneLess}
 use Rattle.pairs.specs.Pairs.{pairs_of, Has}
@@ -28,7 +28,14 @@ pub record FirstTold (r : Rule) (v o : ℕ) : Type 0 where
 abbrev pub NoneTold : Rule → ℕ → Type 0
 NoneTold r v = (p : ℕ) → p < v + (r.wide - 1) → Tells r v p → ⊥
 
+-- the least width of a way back, and there the first place
+pub record LeastTold (r : Rule) (w : WayBack) : Type 0 where
+  pub some : 1 ≤ w.width
+  pub inside : w.place < w.width + (r.wide - 1)
+  pub tells : Tells r w.width w.place
+  pub least : NoneLess r w.width w.place
+
 -- the least width and place of a way back; or a pair for which there is none
-abbrev pub Answers : Rule → WayBack → Type 0
-Answers r (Told v o) = (1 ≤ v) × (o < v + (r.wide - 1)) × Tells r v o × NoneLess r v o
-Answers r (Twins x) = Endless r x
+abbrev pub Answers : Rule → Result WayBack TwinPair → Type 0
+Answers r (Ok w) = LeastTold r w
+Answers r (Err x) = Endless r x.0

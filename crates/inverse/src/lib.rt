@@ -1,53 +1,43 @@
 #![tactic(auto)]
 
 // The least way back of a rule, by the pasts and the futures of its pairs.
-ghost use Rattle.std.specs.Prelude.{◌≡◌, ℕ, ◌+◌, ◌-◌, ◌^◌, ◌<◌, ◌≤◌, length, Decides, MatchOption};
-ghost use Rattle.pairs.specs.declared.Direction.TheVariants.{Past, Future};
+ghost use Rattle.std.specs.Prelude.{◌≡◌, ℕ, ◌+◌, ◌-◌, ◌<◌, ◌≤◌, Decides, MatchOption, ◌^◌};
 ghost use Rattle.inverse.specs.Inverse.{Answers, Apart, Endless, FirstTold, NoneTold};
 ghost use Rattle.rules.specs.Local.{the_rule};
-ghost use Rattle.pairs.specs.Pairs.{pairs_of, Depths, Graph};
-ghost use Rattle.rules.specs.Rules.{Sound};
+ghost use Rattle.pairs.specs.Measured.{Measured};
 ghost use Rattle.theory.specs.Says.{Tells};
 
 pub mod table;
 
-use pairs::{ENDLESS, futures, pasts};
-use rules::local::LocalRule;
+use pairs::depths::PairDepths;
+use pairs::graph::ENDLESS;
+use rules::sound::SoundRule;
 
-// What is found: the least width, and there the first place, whose cell the next row tells; or a pair of different blocks
-// that has an endless past and an endless future, so that no width tells them apart.
+// A width of a way back, and the place whose cell so many cells of the next row tell.
 #[derive(Clone, Copy, PartialEq, Eq, Debug)]
-pub enum WayBack {
-    Told { width: u32, place: u32 },
-    Twins { pair: usize },
+pub struct WayBack {
+    pub width: u32,
+    pub place: u32,
 }
 
-// The least width and place of a way back, or a pair for which there is none. The words from `base` on then have the pasts
-// of the pairs, and behind them the futures.
-pub fn least_way_back(rule: LocalRule, base: usize, work: &mut [u32]) -> WayBack
-    requires { (Sound (the_rule rule)) × ((base + pairs_of (the_rule rule)) + pairs_of (the_rule rule) ≤ length work.old) }
-    ensures answers { Answers (the_rule rule.entry) result }
-    ensures graph { Graph (the_rule rule.entry) base work.old work.new }
-{
-    let pairs = rule.blocks() * rule.blocks();
-    let middle = base + pairs;
-    pasts(rule, base, work);
-    futures(rule, middle, work);
-    least_told(rule, &work[base..middle], &work[middle..middle + pairs])
-}
+// Why there is no way back: a pair of different blocks that has an endless past and an endless future, so that no width tells
+// them apart.
+#[derive(Clone, Copy, PartialEq, Eq, Debug)]
+pub struct TwinPair(pub usize);
 
-// The least width and place that tell, or a pair for which there is none.
-fn least_told(rule: LocalRule, pasts: &[u32], futures: &[u32]) -> WayBack
-    requires { (Sound (the_rule rule)) × ((Depths (the_rule rule) Past pasts.now) × (Depths (the_rule rule) Future futures.now)) }
-    ensures { Answers (the_rule rule.entry) result }
+// The least width, and there the first place, whose cell the next row tells.
+pub fn least_way_back(depths: PairDepths) -> Result<WayBack, TwinPair>
+    requires { Measured depths }
+    ensures { Answers (the_rule depths.entry.rule.local) result }
 {
-    if let Some(pair) = endless_pair(rule, pasts, futures) {
-        return WayBack::Twins { pair };
+    if let Some(pair) = endless_pair(depths) {
+        return Err(TwinPair(pair));
     }
+    // No bound on the width is named: that there is one is what the measure of this loop proves.
     let mut width = 1;
     'widths: loop {
-        if let Some(place) = first_told(rule, pasts, futures, width) {
-            return WayBack::Told { width, place };
+        if let Some(place) = first_told(depths, width) {
+            return Ok(WayBack { width, place });
         }
         width += 1;
     }
@@ -55,54 +45,60 @@ fn least_told(rule: LocalRule, pasts: &[u32], futures: &[u32]) -> WayBack
 
 // Whether so many cells of the next row tell the cell at a place. Two pieces that differ there are a walk through a pair
 // whose blocks differ in it: so many edges lie behind the pair, and the rest before it.
-pub fn tells(rule: LocalRule, pasts: &[u32], futures: &[u32], width: u32, place: u32) -> bool
-    requires { (Sound (the_rule rule)) × ((Depths (the_rule rule) Past pasts.now) × ((Depths (the_rule rule) Future futures.now) × (place < width + (rule.wide - 1)))) }
-    ensures { Decides result (Tells (the_rule rule.entry) width place) }
+pub fn tells(depths: PairDepths, width: u32, place: u32) -> bool
+    requires depths { Measured depths }
+    requires inside { place < width + (depths.rule.local.wide - 1) }
+    ensures { Decides result (Tells (the_rule depths.entry.rule.local) width place) }
 {
     let behind = place.min(width);
     let before = width - behind;
-    let unit = rule.kinds().pow(rule.wide() - 2 - (place - behind));
-    for pair in 0..pasts.len() {
-        if pasts[pair] >= behind && futures[pair] >= before && apart(rule, pair, unit) {
-            return false;
-        }
-    }
-    true
+    let unit = unit_of(depths.rule, depths.rule.local.wide() - 2 - (place - behind));
+    !(0..depths.pasts.len()).any(|pair| {
+        depths.pasts[pair] >= behind
+            && depths.futures[pair] >= before
+            && apart(depths.rule, pair, unit)
+    })
 }
 
 // The first place that so many cells of the next row tell, if there is one.
-fn first_told(rule: LocalRule, pasts: &[u32], futures: &[u32], width: u32) -> Option<u32>
-    requires { (Sound (the_rule rule)) × ((Depths (the_rule rule) Past pasts.now) × ((Depths (the_rule rule) Future futures.now) × (width + rule.wide < 2 ^ 32))) }
-    ensures { MatchOption result (NoneTold (the_rule rule.entry) width) (FirstTold (the_rule rule.entry) width) }
+fn first_told(depths: PairDepths, width: u32) -> Option<u32>
+    requires depths { Measured depths }
+    requires fits { width + depths.rule.local.wide < 2 ^ 32 }
+    ensures { MatchOption result (NoneTold (the_rule depths.entry.rule.local) width) (FirstTold (the_rule depths.entry.rule.local) width) }
 {
-    for place in 0..width + (rule.wide() - 1) {
-        if tells(rule, pasts, futures, width, place) {
-            return Some(place);
-        }
-    }
-    None
+    (0..width + (depths.rule.local.wide() - 1)).find(|place| tells(depths, width, *place))
 }
 
 // A pair of different blocks with an endless past and an endless future, if there is one.
-fn endless_pair(rule: LocalRule, pasts: &[u32], futures: &[u32]) -> Option<usize>
-    requires { (Sound (the_rule rule)) × ((Depths (the_rule rule) Past pasts.now) × (Depths (the_rule rule) Future futures.now)) }
-    ensures { MatchOption result ((x : ℕ) → Endless (the_rule rule.entry) x → ⊥) (Endless (the_rule rule.entry)) }
+fn endless_pair(depths: PairDepths) -> Option<usize>
+    requires { Measured depths }
+    ensures { MatchOption result ((x : ℕ) → Endless (the_rule depths.entry.rule.local) x → ⊥) (Endless (the_rule depths.entry.rule.local)) }
 {
-    let blocks = rule.blocks();
-    for pair in 0..pasts.len() {
-        if pasts[pair] == ENDLESS && futures[pair] == ENDLESS && pair / blocks != pair % blocks {
-            return Some(pair);
-        }
-    }
-    None
+    let blocks = depths.rule.local.blocks();
+    (0..depths.pasts.len()).find(|&pair| {
+        depths.pasts[pair] == ENDLESS
+            && depths.futures[pair] == ENDLESS
+            && pair / blocks != pair % blocks
+    })
+}
+
+// What the digit of a block stands for that has so many digits behind it.
+fn unit_of(rule: SoundRule, behind: u32) -> u32
+    requires { behind < rule.local.wide - 1 }
+    ensures is { result ≡ rule.entry.local.kinds ^ behind }
+    ensures some { 0 < result }
+{
+    rule.local.kinds().pow(behind)
 }
 
 // Whether the blocks of a pair differ in the digit that stands for `unit`.
-fn apart(rule: LocalRule, pair: usize, unit: u32) -> bool
-    requires { (Sound (the_rule rule)) × (0 < unit) }
-    ensures { Decides result (Apart (the_rule rule.entry) unit pair) }
+fn apart(rule: SoundRule, pair: usize, unit: u32) -> bool
+    requires { 0 < unit }
+    ensures { Decides result (Apart (the_rule rule.entry.local) unit pair) }
 {
-    let first = pair / rule.blocks() / unit as usize % rule.kinds() as usize;
-    let second = pair % rule.blocks() / unit as usize % rule.kinds() as usize;
+    let blocks = rule.local.blocks();
+    let kinds = rule.local.kinds() as usize;
+    let first = pair / blocks / unit as usize % kinds;
+    let second = pair % blocks / unit as usize % kinds;
     first != second
 }

@@ -71,6 +71,9 @@ follow_lt r some s c = follow_below_lt r s c some (r.kinds ^ r.wide)
 pub blocks_pos : (r : Rule) → 0 < r.kinds → 0 < blocks_of r
 blocks_pos r some = one-le-pow (r.wide - 1) r.kinds some
 
+pub below_from_follow : (r : Rule) (s c : ℕ) {t : ℕ} → 0 < r.kinds → t ≡ follow r s c → t < 2 ^ blocks_of r
+below_from_follow r s c some is = subst (λ t. t < 2 ^ blocks_of r) (sym is) (follow_lt r (blocks_pos r some) s c)
+
 -- the first block of a window
 pub first_block_lt : (r : Rule) → 0 < r.kinds → 1 ≤ r.wide → (w : ℕ) → w < r.kinds ^ r.wide → w / r.kinds < blocks_of r
 first_block_lt r some wide w below = div_below w r.kinds (blocks_of r) some (subst (λ n. w < n) (pow_pred r.kinds r.wide wide) below)
@@ -93,9 +96,6 @@ cell_place_lt l k w c is below cell =
 pub record Marked (r : Rule) (n : ℕ) (ms : List ℕ) : Type 0 where
   pub full : length ms ≡ r.kinds ^ r.wide
   pub each : (p : ℕ) → p < length ms → get_or ms p 0 ≡ follow_below r (2 ^ (p / r.kinds)) (p % r.kinds) n
-
-pub marked_none : {r : Rule} {ms : List ℕ} → length ms ≡ r.kinds ^ r.wide → ((p : ℕ) → p < length ms → get_or ms p 0 ≡ 0) → Marked r 0 ms
-marked_none full each = record { full = full; each = each }
 
 marked_at : {r : Rule} {n : ℕ} {ms : List ℕ} (p v : ℕ) → Marked r n ms → p < length ms → p / r.kinds ≡ n / r.kinds → p % r.kinds ≡ get_or r.table n 0 → ((j : ℕ) → In j v ↔ (In j (get_or ms p 0) ⊎ (j ≡ n % blocks_of r))) → Marked r (n + 1) (set ms p v)
 marked_at {r} {n} {ms} p v m inside first cell members =
@@ -129,10 +129,6 @@ marked_more {r} {n} {ms} k b c v m is is_b inside kind cell members =
     let below : c < k = omega arith in
     marked_at (n / k * k + c) v m inside (ap (λ d. (n / k * k + c) / d) (sym is) ∙ div-mul-add (n / k) k c below ∙ ap (λ d. n / d) is) (ap (λ d. (n / k * k + c) % d) (sym is) ∙ mod-mul-add (n / k) k c below ∙ cell) (subst (λ b. (j : ℕ) → In j v ↔ (In j (get_or ms (n / k * k + c) 0) ⊎ (j ≡ n % b))) is_b members)
 
-pub masks_from_marked : {r : Rule} {n : ℕ} {ms : List ℕ} → Marked r n ms → n ≡ length ms → Masks r ms
-masks_from_marked {r} {n} {ms} m is =
-    record { full = m.full; each = λ p l. m.each p l ∙ ap (follow_below r (2 ^ (p / r.kinds)) (p % r.kinds)) (is ∙ m.full) }
-
 pub mask_at : {r : Rule} {ms : List ℕ} → Masks r ms → 1 ≤ r.wide → (k i c : ℕ) → k ≡ r.kinds → i < blocks_of r → c < r.kinds → get_or ms (i * k + c) 0 ≡ follow r (2 ^ i) c
 mask_at {r} {ms} masks wide k i c is inside kind =
     let below : c < k = omega arith in
@@ -144,9 +140,6 @@ pub record Collected (r : Rule) (s c n t : ℕ) : Type 0 where
   pub members : (j : ℕ) → In j t ↔ ((i : ℕ) × (i < n) × (In i s × In j (follow r (2 ^ i) c)))
 
 module _ {r : Rule} {s c : ℕ} where
-  pub collected_none : {t : ℕ} → ((j : ℕ) → In j t → ⊥) → Collected r s c 0 t
-  collected_none none = record { members = λ j. (λ h. absurd (none j h), λ (i, l, _). absurd (omega arith)) }
-
   pub collected_more : {n t t' : ℕ} → Collected r s c n t → In n s → (mask : ℕ) → mask ≡ follow r (2 ^ n) c → ((j : ℕ) → In j t' ↔ (In j t ⊎ In j mask)) → Collected r s c (n + 1) t'
   collected_more {n} before member mask is both =
       record {

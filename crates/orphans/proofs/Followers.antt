@@ -78,9 +78,6 @@ filled_more {r} {a} {b} {ts} {ts'} n some is before kept added =
         ∙ ap (λ s. bit_or s (follow r (2 ^ (a + b)) c)) (before.each q (omega arith))
         ∙ sym (ap₂ (λ v c. follow r (v * 2 ^ a) c) first last ∙ follow_raised r a b (q / k) c (div_below q k (2 ^ b) some (omega arith)))
 
-pub followers_from_filled : {r : Rule} {a h b : ℕ} {ts : List ℕ} → length ts ≡ 2 ^ h * r.kinds → b ≡ h → Filled r a b ts → Followers r a h ts
-followers_from_filled {r} {ts = ts} full is filled = record { full = full; each = λ p l. filled.each p (subst (λ b. p < 2 ^ b * r.kinds) (sym is) (omega arith)) }
-
 module _ {r : Rule} {a h : ℕ} {ts : List ℕ} (all : Followers r a h ts) (k v c : ℕ) (is : k ≡ r.kinds) (inside : v < 2 ^ h) (kind : c < r.kinds) where
   pub followers_lt : v * k + c < length ts
   followers_lt = subst (λ k. v * k + c < length ts) (sym is) (omega (arith, all.full, mul-add-lt v r.kinds c (2 ^ h) inside kind))

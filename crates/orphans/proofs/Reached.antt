@@ -10,7 +10,9 @@ use Rattle.orphans.specs.Sets.{In}
 use Rattle.orphans.specs.Subsets.{Follows, SetsTell, follow, after, reached}
 use Rattle.rules.proofs.Digits.{digits-after, digits_lt, digits_more, same_from_digits, piece_of}
 use Rattle.rules.proofs.Next.{get_or_kind, length-next, next-cons}
-use Rattle.rules.proofs.Tables.{pow_pred}
+use Rattle.rules.specs.declared.local.LocalRule.{LocalRule}
+use Rattle.rules.specs.Local.{the_rule}
+use Rattle.rules.proofs.Tables.{pow_pred, formed_local}
 use Rattle.theory.proofs.Preimages.{Comes}
 use Rattle.theory.proofs.Endings.{Ends}
 use Rattle.orphans.proofs.BitSets.{in_below, in_empty, in_full, empty_from_members}
@@ -145,7 +147,7 @@ module _ (r : Rule) (formed : Formed r) where
   reached_from_orphan x (cells, from-none) =
       empty_from_members (reached r x) (λ j member. let (u, (cells_u, (long, from)), _) = (in_reached_number x j).0 member in from-none u cells_u long from)
 
-  pub tells : SetsTell r
+  tells : SetsTell r
   tells = record { ends = in_reached; orphans = λ x cells. (orphan_from_reached x cells, reached_from_orphan x) }
 
   -- of the words that lead to the empty set a shortest one, and of these the first by its digits
@@ -159,3 +161,7 @@ module _ (r : Rule) (formed : Formed r) where
 
   pub no_orphan_from_reached : ((x : List ℕ) → Piece r x → reached r x ≡ 0 → ⊥) → (x : List ℕ) → FromNothing r x → ⊥
   no_orphan_from_reached never x orphan = never x orphan.0 (reached_from_orphan x orphan)
+
+-- what the sets tell of a checked table
+pub tells_local : (l : LocalRule) → SetsTell (the_rule l)
+tells_local l = tells (the_rule l) (formed_local l)

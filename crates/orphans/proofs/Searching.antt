@@ -1,7 +1,6 @@
 -- The first word to the empty set of blocks is the first orphan.
-use Rattle.std.proofs.Common.{ℕ, ◌-◌, ◌^◌, List, take, drop, sym, ap, ◌∙◌, length-take-le}
-use Rattle.bfs.specs.declared.Found.{Found}
-use Rattle.bfs.specs.declared.Found.TheVariants.{Word, Long, Nothing}
+use Rattle.std.proofs.Common.{ℕ, ◌-◌, ◌^◌, List, take, drop, Option, Some, None, Result, Ok, Err, sym, ap, ◌∙◌, length-take-le}
+use Rattle.bfs.specs.declared.TooLong.{TooLong}
 use Rattle.bfs.specs.Answer.{Says}
 use Rattle.bfs.specs.Words.{LeadsTo, FirstWord}
 use Rattle.orphans.specs.Orphans.{TellsOrphan}
@@ -28,9 +27,9 @@ module _ (r : Rule) (sets : SetsTell r) where
         first = λ y orphan. first.first y (word_from_orphan y orphan);
       }
 
-  pub tells_orphan : (o o' : List ℕ) (found : Found) → Says r.kinds (follow r) (full_set r) 0 o o' found → TellsOrphan r o o' found
-  tells_orphan o o' (Word n) stands =
+  pub tells_orphan : (o o' : List ℕ) (found : Result (Option ℕ) TooLong) → Says r.kinds (follow r) (full_set r) 0 o o' found → TellsOrphan r o o' found
+  tells_orphan o o' (Ok (Some n)) stands =
       let long = length-take-le n o' stands.fits in
       (take n o', first_orphan_from_word (take n o') stands.word, sym long, (ap (λ l. take l o') long, ap (λ l. drop l o') long ∙ stands.rest ∙ ap (λ l. drop l o) (sym long)))
-  tells_orphan o o' (Long n) ((x, first, long), short, same) = ((x, first_orphan_from_word x first, sym long), short, same)
-  tells_orphan o o' Nothing (never, same) = (λ x orphan. never x (word_from_orphan x orphan), same)
+  tells_orphan o o' (Ok None) (never, same) = (λ x orphan. never x (word_from_orphan x orphan), same)
+  tells_orphan o o' (Err e) ((x, first, long), short, same) = ((x, first_orphan_from_word x first, sym long), short, same)

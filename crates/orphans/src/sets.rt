@@ -2,7 +2,8 @@
 ghost use Rattle.std.specs.Prelude.{◌≡◌, ℕ, ◌<◌, ◌≤◌, ◌⊎◌, ◌↔◌, Decides, ◌≢◌};
 ghost use Rattle.orphans.specs.Sets.{In};
 
-// A set of blocks: the bits of a word, each at the number of its block.
+// A set of blocks: the bits of a word, each at the number of its block. That a block is below 32 is a clause of three methods: a
+// type for such numbers would have to be made at each call, of a number that the clause speaks of as well.
 #[derive(Clone, Copy, PartialEq, Eq, Debug)]
 pub struct BlockSet(pub u32);
 

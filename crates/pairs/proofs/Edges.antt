@@ -1,8 +1,8 @@
 -- The pair graph in either direction: the edges of a pair, and its pasts and futures of one edge more.
 use Rattle.std.proofs.Common.{◌≡◌, ℕ, zero, suc, ◌+◌, ◌*◌, ◌/◌, ◌%◌, ◌<◌, get_or, sym, refl, ap, ◌∙◌, subst, ap₂, add-one, arith}
 use Rattle.std.proofs.lemmas.Nat.{mul-add-lt, div-mul-add, mod-mul-add, div-add-mod', div_below, mod_below}
-use Rattle.pairs.specs.declared.Direction.{Direction}
-use Rattle.pairs.specs.declared.Direction.TheVariants.{Past, Future}
+use Rattle.pairs.specs.declared.graph.Direction.{Direction}
+use Rattle.pairs.specs.declared.graph.Direction.TheVariants.{Past, Future}
 use Rattle.rules.specs.Rules.{Rule, Sound, blocks_of}
 use Rattle.pairs.specs.Pairs.{pairs_of, pair_at, Has, beyond, first_window, second_window, Edge, neighbour_of}
 use Rattle.rules.proofs.Digits.{split_number}

@@ -5,8 +5,8 @@ use Rattle.std.proofs.lemmas.List.{take-take, drop-drop, length-replicate, get_o
 use Rattle.std.proofs.lemmas.Slice.{between_is, between-put_mid, take-put_mid_below, drop-put_mid}
 use Rattle.std.proofs.lemmas.List.Sums.{sum_by-set}
 use Rattle.std.proofs.lemmas.Bool.{true≢false, false≢true, cases_lt, cases_eq, eq-eqb, ne_eqb, cond-true, cond-false}
-use Rattle.pairs.specs.declared.Direction.{Direction}
-use Rattle.pairs.specs.declared.Direction.TheVariants.{Past, Future}
+use Rattle.pairs.specs.declared.graph.Direction.{Direction}
+use Rattle.pairs.specs.declared.graph.Direction.TheVariants.{Past, Future}
 use Rattle.rules.specs.Rules.{Rule, Sound}
 use Rattle.pairs.specs.Pairs.{pairs_of, Has, endless, Depths, Writes, Graph, Known, Rounds, Edge, neighbour_of}
 use Rattle.pairs.proofs.Edges.{has_none, has_more, edge_from_has, has_less}

@@ -2,8 +2,8 @@
 -- cell comes: it leads from the pair that they begin with to the pair that they end with.
 use Rattle.std.specs.Prelude.{◌≡◌, ℕ, ◌+◌, ◌-◌, ◌*◌, ◌/◌, ◌%◌, ◌<◌, ◌≤◌, ◌⊎◌, ◌↔◌, List, length, take, drop, slice_index}
 use Rattle.std.specs.List.{between}
-use Rattle.pairs.specs.declared.Direction.{Direction}
-use Rattle.pairs.specs.declared.Direction.TheVariants.{Past, Future}
+use Rattle.pairs.specs.declared.graph.Direction.{Direction}
+use Rattle.pairs.specs.declared.graph.Direction.TheVariants.{Past, Future}
 use Rattle.rules.specs.Rules.{Rule, digits, blocks_of}
 use Rattle.theory.specs.Says.{OneNext}
 

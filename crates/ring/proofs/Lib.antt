@@ -3,3 +3,4 @@ pub mod Seconds
 pub mod Rolling
 pub mod Shifting
 pub mod Turns
+pub mod Rings

@@ -30,11 +30,11 @@ module _ {k q : ℕ} {u : List ℕ} {s n last : ℕ} (some : 0 < length u) (b : 
       ∙ sym (digits_push k (unrolled s q u) (get_or u ((s + q) % length u) 0))
       ∙ ap (digits k 0) (sym (unrolled_push u some s q))
 
-  -- which is one of those of q + 1 cells
-  pub window_lt : Cells k u → n * k + get_or u last 0 < k ^ (q + 1)
-  window_lt h =
+  -- which is one of those of as many cells
+  pub window_lt : {m : ℕ} → m ≡ q + 1 → Cells k u → n * k + get_or u last 0 < k ^ m
+  window_lt is h =
       let long = ap (λ l. k ^ l) (length-unrolled u some s (q + 1)) in
-      omega (arith, window_number, digits_lt k (unrolled s (q + 1) u) (cells_unrolled u some k h s (q + 1)))
+      omega (arith, ap (λ l. k ^ l) is, window_number, digits_lt k (unrolled s (q + 1) u) (cells_unrolled u some k h s (q + 1)))
 
   pub after-behind : (last + 1) % length u ≡ (s + (q + 1)) % length u
   after-behind = ap (λ p. (p + 1) % length u) b.behind ∙ mod-add-mod (s + q) (length u) 1 ∙ ap (λ p. p % length u) {y = s + (q + 1)} (omega arith)

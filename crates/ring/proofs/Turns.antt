@@ -1,7 +1,7 @@
 -- Seconds that go to and fro between two slices.
 use Rattle.std.proofs.Common.{◌≡◌, ℕ, suc, ◌+◌, ◌*◌, ◌/◌, ◌%◌, List, sym, ap, ◌∙◌, subst, arith}
 use Rattle.rules.specs.Rules.{Rule, Formed, Piece}
-use Rattle.ring.specs.declared.Held.TheVariants.{Row, Spare}
+use Rattle.ring.specs.declared.Held.TheVariants.{Spare}
 use Rattle.ring.specs.Ring.{ring, rings}
 use Rattle.ring.specs.Seconds.{second_last, Ran}
 use Rattle.ring.proofs.Seconds.{piece_ring, piece_rings}
@@ -23,11 +23,6 @@ turned_piece {r} {o} {j} {u} f t h = subst (Piece r) (sym t.row) (piece_rings r 
 
 pub ring_piece : {r : Rule} (o : ℕ) (u : List ℕ) {w : List ℕ} → Formed r → w ≡ ring r o u → Piece r w
 ring_piece {r} o u f is = subst (Piece r) (sym is) (piece_ring r o f u)
-
-pub ran_even : {r : Rule} {o j : ℕ} (s : ℕ) {u w u' w' : List ℕ} → Turned r o j u w u' w' → j ≡ s / 2 → s % 2 ≡ 0 → Ran r o s u w u' w' Row
-ran_even {r} {o} {j} s {u} {w} t half even =
-    let all : 2 * j ≡ s = omega arith in
-    (even, t.row ∙ ap (λ n. rings r o n u) all, t.spare ∙ ap (λ n. second_last r o n u w) all)
 
 pub ran_odd : {r : Rule} {o j : ℕ} (s : ℕ) {u w u' w' w'' : List ℕ} → Turned r o j u w u' w' → w'' ≡ ring r o u' → j ≡ s / 2 → s % 2 ≡ 1 → Ran r o s u w u' w'' Spare
 ran_odd {r} {o} {j} s {u} {w} t there half odd =

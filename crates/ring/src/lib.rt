@@ -7,13 +7,10 @@ ghost use Rattle.rules.specs.Rules.{Piece};
 ghost use Rattle.ring.specs.Ring.{ring, RoundTrips};
 ghost use Rattle.ring.specs.Seconds.{NotRun, Ran};
 
-#[cfg(test)]
-mod tests;
 mod turn;
 
 use rules::cells::stray;
 use rules::local::LocalRule;
-use turn::turn;
 
 // Why a row is not run: it has no cell, the other cells are not as many, or one of its cells is none of the kinds.
 #[derive(Clone, Copy, PartialEq, Eq, Debug)]
@@ -23,48 +20,61 @@ pub enum NoRing {
     NoKind { place: usize },
 }
 
-// Which of two lent slices holds the last row.
+// Which of two lent slices holds the last row: no borrow of it, which would keep both lent.
 #[derive(Clone, Copy, PartialEq, Eq, Debug)]
 pub enum Held {
     Row,
     Spare,
 }
 
-// One second of a rule, at place 0, or of a way back, at its place, from one slice into another as long.
-pub fn step(rule: LocalRule, place: usize, from: &[u32], to: &mut [u32]) -> Result<(), NoRing>
-    ensures says { MatchResult result
-        (λ _. to.new ≡ ring (the_rule rule.entry) place from.now)
-        (λ e. (to.new ≡ to.old) × NotRun (the_rule rule.entry) from.now (length to.old) e) }
-    ensures round_trips { RoundTrips }
-{
-    check_ring(rule, from, to.len())?;
-    turn(rule, place, from, to);
-    Ok(())
+// A rule at place 0, or a way back at its place: the window of a cell begins so many cells before it.
+#[derive(Clone, Copy)]
+pub struct RingRule<'a> {
+    pub rule: LocalRule<'a>,
+    pub place: usize,
 }
 
-// So many seconds, each from one of two slices into the other.
-pub fn steps(
-    rule: LocalRule,
-    place: usize,
-    seconds: u64,
-    row: &mut [u32],
-    spare: &mut [u32],
-) -> Result<Held, NoRing>
-    ensures says { MatchResult result
-        (Ran (the_rule rule.entry) place seconds row.old spare.old row.new spare.new)
-        (λ e. (row.new ≡ row.old) × (spare.new ≡ spare.old) × NotRun (the_rule rule.entry) row.old (length spare.old) e) }
-    ensures round_trips { RoundTrips }
-{
-    check_ring(rule, row, spare.len())?;
-    for _two in 0..seconds / 2 {
-        turn(rule, place, row, spare);
-        turn(rule, place, spare, row);
+impl<'a> RingRule<'a> {
+    // A rule, which runs at place 0.
+    pub fn forwards(rule: LocalRule<'a>) -> RingRule<'a>
+        ensures rule { result.rule ≡ rule.entry }
+        ensures place { result.place ≡ 0 }
+    {
+        RingRule { rule, place: 0 }
     }
-    if seconds % 2 == 0 {
-        return Ok(Held::Row);
+
+    // One second, from one slice into another as long.
+    #[tactic(auto, using(crate::proofs::Seconds::round_trips))]
+    pub fn step(self, from: &[u32], to: &mut [u32]) -> Result<(), NoRing>
+        ensures says { MatchResult result
+            (λ _. to.new ≡ ring (the_rule self.entry.rule) self.entry.place from.now)
+            (λ e. (to.new ≡ to.old) × NotRun (the_rule self.entry.rule) from.now (length to.old) e) }
+        ensures round_trips { RoundTrips }
+    {
+        check_ring(self.rule, from, to.len())?;
+        self.turn(from, to);
+        Ok(())
     }
-    turn(rule, place, row, spare);
-    Ok(Held::Spare)
+
+    // So many seconds, each from one of two slices into the other.
+    #[tactic(auto, using(crate::proofs::Seconds::round_trips))]
+    pub fn steps(self, seconds: u64, row: &mut [u32], spare: &mut [u32]) -> Result<Held, NoRing>
+        ensures says { MatchResult result
+            (Ran (the_rule self.entry.rule) self.entry.place seconds row.old spare.old row.new spare.new)
+            (λ e. (row.new ≡ row.old) × (spare.new ≡ spare.old) × NotRun (the_rule self.entry.rule) row.old (length spare.old) e) }
+        ensures round_trips { RoundTrips }
+    {
+        check_ring(self.rule, row, spare.len())?;
+        for _two in 0..seconds / 2 {
+            self.turn(row, spare);
+            self.turn(spare, row);
+        }
+        if seconds % 2 == 0 {
+            return Ok(Held::Row);
+        }
+        self.turn(row, spare);
+        Ok(Held::Spare)
+    }
 }
 
 // Whether a row can be run in a ring, with so many spare cells.

@@ -32,6 +32,7 @@ impl Window {
         requires { (Cells kinds cells.now) × (kinds ^ length cells.now < 2 ^ 64) }
         ensures { result.0 ≡ digits kinds 0 cells.now }
     {
+        // No `fold`: its closure would owe the bound of each product before its turn comes.
         let mut window = Window(0);
         for cell in cells {
             window = window.push(kinds, Kind(*cell));
@@ -44,10 +45,5 @@ impl Window {
 pub fn stray(kinds: u32, cells: &[u32]) -> Option<usize>
     ensures { MatchOption result (Cells kinds cells.now) (λ p. Stray kinds cells.now p) }
 {
-    for (place, cell) in cells.iter().enumerate() {
-        if *cell >= kinds {
-            return Some(place);
-        }
-    }
-    None
+    cells.iter().position(|&cell| cell >= kinds)
 }

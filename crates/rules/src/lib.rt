@@ -5,3 +5,4 @@ pub mod cells;
 pub mod local;
 pub mod row;
 pub mod rule;
+pub mod sound;

@@ -28,6 +28,7 @@ pub fn next_row(rule: LocalRule, row: &[u32], out: &mut [u32]) -> Result<usize, 
     if out.len() < wanted {
         return Err(NoRow::Short { wanted });
     }
+    // By a rule of the project each window is read as a slice that starts in the row's middle.
     for i in 0..wanted {
         out[i] = cell_of(rule, &row[i..i + wide]).0;
     }

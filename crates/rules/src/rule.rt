@@ -1,9 +1,12 @@
 // Which tables are rules or ways back, and why others are not.
 ghost use Rattle.std.specs.Prelude.{◌≡◌, ℕ, ◌-◌, ◌^◌, ◌<◌, ◌≤◌, true, length, is_ok, MatchResult};
+ghost use Rattle.rules.specs.Local.{the_rule};
 ghost use Rattle.rules.specs.Rules.{rule_of, Cells, Formed, Sound};
 ghost use Rattle.rules.specs.Checks.{BadSize, BadTable, Unfit};
 
 use crate::cells::stray;
+use crate::local::LocalRule;
+use crate::sound::SoundRule;
 
 // Why a table is no rule: the first of these that holds, in this order.
 #[derive(Clone, Copy, PartialEq, Eq, Debug)]
@@ -21,23 +24,33 @@ pub const MOST_BLOCKS: usize = 16;
 // A way back that is run has at most so many windows.
 pub const MOST_WINDOWS: usize = 262_144;
 
-// Whether a table is a rule that can be decided; the answer is the number of its blocks.
-pub fn check_rule(kinds: u32, wide: u32, table: &[u32]) -> Result<usize, NoRule>
-    ensures says { MatchResult result (λ b. Sound (rule_of kinds wide table.now) × (b ≡ kinds ^ (wide - 1))) (Unfit 2 16 kinds wide table.now) }
-    ensures exact { Sound (rule_of kinds wide table.now) → is_ok result ≡ true }
-{
-    let blocks = check_size(kinds, wide, 2, MOST_BLOCKS)?;
-    check_table(kinds, blocks * kinds as usize, table)?;
-    Ok(blocks)
+impl<'a> SoundRule<'a> {
+    // A table that is a rule to be decided.
+    pub fn try_new(kinds: u32, wide: u32, table: &'a [u32]) -> Result<SoundRule<'a>, NoRule>
+        ensures says { MatchResult result
+            (λ s. (the_rule s.local ≡ rule_of kinds wide table.now) × Sound (rule_of kinds wide table.now))
+            (Unfit 2 16 kinds wide table.now) }
+        ensures exact { Sound (rule_of kinds wide table.now) → is_ok result ≡ true }
+    {
+        let blocks = check_size(kinds, wide, 2, MOST_BLOCKS)?;
+        check_table(kinds, blocks * kinds as usize, table)?;
+        let local = LocalRule::new(kinds, wide, table);
+        Ok(SoundRule { local })
+    }
 }
 
-// Whether a table is one that can be run on a ring, as a way back of any width can.
-pub fn check_way_back(kinds: u32, wide: u32, table: &[u32]) -> Result<(), NoRule>
-    ensures says { MatchResult result (λ _. Formed (rule_of kinds wide table.now)) (Unfit 1 262144 kinds wide table.now) }
-    ensures exact { Formed (rule_of kinds wide table.now) → kinds ^ wide ≤ 262144 → is_ok result ≡ true }
-{
-    let windows = check_size(kinds, wide, 1, MOST_WINDOWS)?;
-    check_table(kinds, windows, table)
+impl<'a> LocalRule<'a> {
+    // A table that can be run on a ring, as a rule or as a way back of any width.
+    pub fn try_new(kinds: u32, wide: u32, table: &'a [u32]) -> Result<LocalRule<'a>, NoRule>
+        ensures says { MatchResult result
+            (λ l. (the_rule l ≡ rule_of kinds wide table.now) × Formed (rule_of kinds wide table.now))
+            (Unfit 1 262144 kinds wide table.now) }
+        ensures exact { Formed (rule_of kinds wide table.now) → kinds ^ wide ≤ 262144 → is_ok result ≡ true }
+    {
+        let windows = check_size(kinds, wide, 1, MOST_WINDOWS)?;
+        check_table(kinds, windows, table)?;
+        Ok(LocalRule::new(kinds, wide, table))
+    }
 }
 
 // Whether there are kinds enough, the width is at least `least`, and the pieces of all but `least - 1` cells of a window

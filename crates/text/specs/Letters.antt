@@ -29,3 +29,8 @@ shown a u = encodes (map (symbol a) u)
 -- the text of cells as a picture: a block for each
 abbrev pub drawn : List ℕ → List ℕ
 drawn u = shown Glyphs u
+
+-- the text of cells in an alphabet
+abbrev pub text_of : Alphabet → List ℕ → List ℕ
+text_of Digits = written
+text_of Glyphs = drawn

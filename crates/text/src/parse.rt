@@ -13,6 +13,7 @@ pub enum NoCells {
     Memory,
 }
 
+// By hand: a contract says that it is `Memory`, and what `thiserror` derives has no contract.
 impl From<AllocError> for NoCells {
     ghost from_gives = { λ _ r. r ≡ no_memory };
 
@@ -45,6 +46,7 @@ pub fn parse_cells(heap: Global, kinds: u32, text: &str) -> Result<Vec<u32>, NoC
     ensures { MatchResult result (λ v. Reads kinds text.now v.items) (Refuses kinds text.now) }
 {
     let mut cells = Vec::with_capacity(heap, text.len())?;
+    // A `for`: a chain that is collected into a `Result` says less of where it stops.
     for (place, &byte) in text.as_bytes().iter().enumerate() {
         let Some(kind) = digit(byte) else {
             return Err(NoCells::NoDigit { place });

@@ -1,7 +1,7 @@
 // Cells that are written as digits, or drawn.
 ghost use Rattle.std.specs.Prelude.{◌≡◌, ◌<◌, string_bytes};
 ghost use Rattle.text.specs.declared.print.NoText.TheVariants.{Memory as no_memory};
-ghost use Rattle.text.specs.Letters.{written, symbol, shown, drawn};
+ghost use Rattle.text.specs.Letters.{symbol, text_of};
 ghost use Rattle.text.specs.Shown.{Adds};
 
 use rules::cells::stray;
@@ -22,6 +22,7 @@ pub enum NoText {
     Memory,
 }
 
+// By hand: a contract says that it is `Memory`, and what `thiserror` derives has no contract.
 impl From<AllocError> for NoText {
     ghost from_gives = { λ _ r. r ≡ no_memory };
 
@@ -30,8 +31,10 @@ impl From<AllocError> for NoText {
     }
 }
 
-#[derive(Clone, Copy)]
-enum Alphabet {
+// The characters that stand for cells: digits, or block characters that make a picture. An option chooses one by name, which a
+// closure has not.
+#[derive(Clone, Copy, Debug, PartialEq, Eq)]
+pub enum Alphabet {
     Digits,
     Glyphs,
 }
@@ -48,9 +51,10 @@ impl Alphabet {
     }
 }
 
-// All cells are looked at before the first is added, so a refused one leaves the line as it was.
-fn append(line: &mut String, alphabet: Alphabet, cells: &[u32]) -> Result<(), NoText>
-    ensures { Adds (shown alphabet) cells.now (string_bytes line.old) (string_bytes line.new) result }
+// Adds the cells to the line, a character for each. All are looked at before the first is added, so a refused one leaves
+// the line as it was.
+pub fn write_cells(line: &mut String, alphabet: Alphabet, cells: &[u32]) -> Result<(), NoText>
+    ensures { Adds (text_of alphabet) cells.now (string_bytes line.old) (string_bytes line.new) result }
 {
     if let Some(place) = stray(SYMBOLS, cells) {
         return Err(NoText::NoDigit { place });
@@ -59,18 +63,4 @@ fn append(line: &mut String, alphabet: Alphabet, cells: &[u32]) -> Result<(), No
         line.push(alphabet.char_of(cell))?;
     }
     Ok(())
-}
-
-// Adds the cells to the line, a digit for each.
-pub fn write_cells(line: &mut String, cells: &[u32]) -> Result<(), NoText>
-    ensures { Adds written cells.now (string_bytes line.old) (string_bytes line.new) result }
-{
-    append(line, Alphabet::Digits, cells)
-}
-
-// Adds a picture of the cells to the line, a glyph for each.
-pub fn draw_cells(line: &mut String, cells: &[u32]) -> Result<(), NoText>
-    ensures { Adds drawn cells.now (string_bytes line.old) (string_bytes line.new) result }
-{
-    append(line, Alphabet::Glyphs, cells)
 }

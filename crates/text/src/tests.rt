@@ -29,7 +29,7 @@ fn bad_places(rt: HostRuntime) {
 #[test]
 fn there_and_back(rt: HostRuntime) -> Result<(), Fail> {
     let mut line = String::new(rt.alloc());
-    write_cells(&mut line, &[0, 9, 10, 15])?;
+    write_cells(&mut line, Alphabet::Digits, &[0, 9, 10, 15])?;
     assert_eq!(rt; line.as_str(), "09af");
     let cells = parse_cells(rt.alloc(), 16, line.as_str())?;
     assert_eq!(rt; cells.as_slice(), [0, 9, 10, 15].as_slice());
@@ -40,7 +40,7 @@ fn there_and_back(rt: HostRuntime) -> Result<(), Fail> {
 fn past_the_symbols(rt: HostRuntime) {
     let mut line = String::new(rt.alloc());
     assert_eq!(rt;
-        write_cells(&mut line, &[0, 16]),
+        write_cells(&mut line, Alphabet::Digits, &[0, 16]),
         Err(NoText::NoDigit { place: 1 })
     );
     assert_eq!(rt; line.as_str(), "");
@@ -49,7 +49,7 @@ fn past_the_symbols(rt: HostRuntime) {
 #[test]
 fn picture(rt: HostRuntime) -> Result<(), Fail> {
     let mut line = String::new(rt.alloc());
-    draw_cells(&mut line, &[0, 1])?;
+    write_cells(&mut line, Alphabet::Glyphs, &[0, 1])?;
     assert_eq!(rt; line.as_str(), " █");
     Ok(())
 }

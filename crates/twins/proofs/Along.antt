@@ -4,7 +4,7 @@ use native.Mathlib.Decide.{ℕ_discrete}
 use Rattle.std.proofs.lemmas.Nat.{div-mul-add, mod-mul-add}
 use Rattle.std.proofs.lemmas.List.{length-reverse, get_or-map, get_or_append_left, take_rest}
 use Rattle.std.proofs.lemmas.Bool.{cases_lt}
-use Rattle.pairs.specs.declared.Direction.TheVariants.{Past, Future}
+use Rattle.pairs.specs.declared.graph.Direction.TheVariants.{Past, Future}
 use Rattle.twins.specs.declared.Repeat.{Repeat}
 use Rattle.rules.specs.Rules.{Rule, Sound, digits, blocks_of, Row}
 use Rattle.theory.specs.Says.{OneNext, SameNext}
@@ -177,10 +177,6 @@ module _ (r : Rule) (sound : Sound r) (x : ℕ) (ps fs : List ℕ) (past : Path 
 
 -- the words behind the first q
 module _ (q : ℕ) (fs : List ℕ) where
-  pub words_behind : (n : ℕ) → n + q < length fs → ((i : ℕ) → i < length fs → get_or fs i 0 < n) → (n < length (take (length fs - q) (drop q fs))) × ((i : ℕ) → i < length (take (length fs - q) (drop q fs)) → get_or (take (length fs - q) (drop q fs)) i 0 < n)
-  words_behind n enough below =
-      rw take_rest (omega (arith, length-drop q fs), λ i h. rw get_or-drop (below (q + i) (omega (arith, length-drop q fs))))
-
   pub repeated_behind : (p : Repeat) → Repeated (take (length fs - q) (drop q fs)) p → (p.start < p.end) × (q + p.end < length fs) × (get_or fs (q + p.start) 0 ≡ get_or fs (q + p.end) 0)
   repeated_behind p repeated =
       let rest = take_rest fs q in

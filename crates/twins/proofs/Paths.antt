@@ -5,8 +5,8 @@ use Rattle.std.proofs.lemmas.Nat.{pow-add}
 use Rattle.std.proofs.lemmas.List.{length-map, length_push, length-reverse, get_or_push, get_or_append_left, get_or-append_right, get_or-append-add, get_or-reverse}
 use Rattle.std.proofs.ByRecursion.{All-take, All-drop, All-append}
 use Rattle.std.proofs.lemmas.Bool.{cases_lt}
-use Rattle.pairs.specs.declared.Direction.{Direction}
-use Rattle.pairs.specs.declared.Direction.TheVariants.{Past, Future}
+use Rattle.pairs.specs.declared.graph.Direction.{Direction}
+use Rattle.pairs.specs.declared.graph.Direction.TheVariants.{Past, Future}
 use Rattle.rules.specs.Rules.{Rule, Sound, Piece, digits, blocks_of}
 use Rattle.theory.specs.Says.{OneNext}
 use Rattle.pairs.specs.Pairs.{pairs_of, pair_at, Depths, Edge, neighbour_of}

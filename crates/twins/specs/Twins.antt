@@ -1,6 +1,6 @@
 -- Paths in the pair graph, and the twins that are written along them.
 use Rattle.std.specs.Prelude.{◌≡◌, ℕ, ◌+◌, ◌*◌, ◌/◌, ◌%◌, ◌<◌, List, ◌++◌, length, slice_index, slice_index_or}
-use Rattle.pairs.specs.declared.Direction.{Direction}
+use Rattle.pairs.specs.declared.graph.Direction.{Direction}
 use Rattle.twins.specs.declared.Lengths.{Lengths}
 use Rattle.twins.specs.declared.Repeat.{Repeat}
 use Rattle.pairs.specs.Pairs.{pairs_of, endless, Edge, neighbour_of}

@@ -5,11 +5,12 @@ use Rattle.std.proofs.lemmas.Nat.{div-mul-add, mod-mul-add}
 use Rattle.undone.specs.declared.Decided.{Decided}
 use Rattle.undone.specs.declared.Decided.TheVariants.{NoRule, Few}
 use Rattle.undone.specs.Decided.{Answer, DecidedPost, NoOrphans}
-use Rattle.inverse.specs.Inverse.{Endless}
+use Rattle.inverse.specs.declared.WayBack.{WayBack}
+use Rattle.inverse.specs.Inverse.{LeastTold, Endless}
 use Rattle.orphans.specs.Orphans.{words_of}
 use Rattle.pairs.specs.Pairs.{block_at, pair_at}
 use Rattle.rules.specs.Rules.{Rule, rule_of, Sound, Row, blocks_of, digits}
-use Rattle.theory.specs.Says.{Tells, NoneLess, Least, Back, OneNext, SameNext}
+use Rattle.theory.specs.Says.{Least, Back, OneNext, SameNext}
 use Rattle.theory.proofs.Back.{back_same}
 use Rattle.theory.proofs.Parts.{parts}
 use Rattle.theory.proofs.Telling.{back_from_tells}
@@ -17,10 +18,10 @@ use Rattle.theory.proofs.Trichotomy.{one_of_three}
 use Rattle.pairs.proofs.Walks.{block_lt, walks_join}
 
 -- what is told and not less is a least way back
-pub least_from_tells : (r : Rule) → Sound r → (v o : ℕ) → 1 ≤ v → o < v + (r.wide - 1) → Tells r v o → NoneLess r v o → (t : List ℕ) × Least r v o t
-least_from_tells r sound v o some inside tells none =
-    let (t, way) = back_from_tells r sound v o some inside tells in
-    (t, record { is = way; none_less = none })
+pub least_from_tells : (r : Rule) → Sound r → (w : WayBack) → LeastTold r w → (t : List ℕ) × Least r w.width w.place t
+least_from_tells r sound w told =
+    let (t, way) = back_from_tells r sound w.width w.place told.some told.inside told.tells in
+    (t, record { is = way; none_less = told.least })
 
 -- a pair of different blocks with an endless past and an endless future leaves no way back: far enough from both ends it would
 -- tell the two blocks

@@ -1,9 +1,7 @@
 -- What the decision of a rule promises.
-use Rattle.std.specs.Prelude.{◌≡◌, ℕ, ◌^◌, ◌<◌, ◌≤◌, ◌⊎◌, ◌↔◌, List, ◌++◌, length, take, drop}
+use Rattle.std.specs.Prelude.{◌≡◌, ℕ, ◌^◌, ◌<◌, ◌≤◌, ◌⊎◌, ◌↔◌, List, ◌++◌, length}
 use Rattle.undone.specs.declared.Decided.{Decided}
 use Rattle.undone.specs.declared.Decided.TheVariants.{Undone, Twins, Orphan, UndoneFull, TwinsFull, OrphanFull, NoRule, Few}
-use Rattle.pairs.specs.declared.Direction.TheVariants.{Past, Future}
-use Rattle.pairs.specs.Pairs.{pairs_of, Depths}
 use Rattle.rules.specs.Rows.{Puts}
 use Rattle.rules.specs.Rules.{Rule, rule_of, Sound, Row}
 use Rattle.theory.specs.Says.{Least, SameNext, FromNothing, FirstOrphan, Parts}
@@ -11,10 +9,6 @@ use Rattle.theory.specs.Says.{Least, SameNext, FromNothing, FirstOrphan, Parts}
 -- no piece comes from none
 abbrev pub NoOrphans : Rule → Type 0
 NoOrphans r = (x : List ℕ) → FromNothing r x → ⊥
-
--- the words ws begin with the pasts of the pairs of r, and behind them their futures
-abbrev pub Lists : Rule → List ℕ → Type 0
-Lists r ws = Depths r Past (take (pairs_of r) ws) × Depths r Future (take (pairs_of r) (drop (pairs_of r) ws))
 
 -- what each answer says of a rule r, where o is what was lent for it and o' what it holds then
 abbrev pub Answer : Rule → List ℕ → List ℕ → Decided → Type 0

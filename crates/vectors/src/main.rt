@@ -5,33 +5,28 @@
 use answers::answer::answer_line;
 use answers::endless::{EndlessRow, two_rows};
 use answers::given::GivenRule;
+use answers::workspace::Workspace;
+use commands::cells::read_cells;
 use commands::fault::Fault;
 use commands::options::Name;
 use rules::local::LocalRule;
 use rules::row::next_row;
-use rules::rule::MOST_WINDOWS;
 use std::alloc::Global;
-use text::parse::parse_cells;
-use undone::{Decided, WORK};
+use twins::Lengths;
+use undone::Decided;
 
 fn main(rt: HostRuntime) -> Result<(), Fault> {
-    let mut out = vec![in rt.alloc(); 0; MOST_WINDOWS]?;
-    let mut work = vec![in rt.alloc(); 0; WORK]?;
+    let mut workspace = Workspace::new(rt.alloc())?;
     for line in rt.lines(rt.alloc()) {
         let line = line?;
-        let answer = answer_to(
-            rt.alloc(),
-            line.as_str(),
-            out.as_mut_slice(),
-            work.as_mut_slice(),
-        )?;
+        let answer = answer_to(rt.alloc(), line.as_str(), &mut workspace)?;
         println!(rt; "{line} {answer}")?;
     }
     Ok(())
 }
 
 // The answer to a line of kinds, width and table. What comes behind these is not read.
-fn answer_to(heap: Global, line: &str, out: &mut [u32], work: &mut [u32]) -> Result<String, Fault> {
+fn answer_to(heap: Global, line: &str, workspace: &mut Workspace) -> Result<String, Fault> {
     let mut words = line.split_whitespace();
     let (Some(kinds), Some(wide), Some(cells)) = (words.next(), words.next(), words.next()) else {
         return Err(Fault::FewArguments);
@@ -39,36 +34,27 @@ fn answer_to(heap: Global, line: &str, out: &mut [u32], work: &mut [u32]) -> Res
     let (Ok(kinds), Ok(wide)) = (kinds.parse::<u32>(), wide.parse::<u32>()) else {
         return Err(Fault::FewArguments);
     };
-    match parse_cells(heap, kinds, cells) {
-        Ok(table) => answer_table(heap, kinds, wide, table, out, work),
-        Err(reason) => Err(Fault::Cells {
-            name: Name::Table,
-            reason,
-            kinds,
-        }),
+    let table = read_cells(heap, Name::Table, kinds, cells)?;
+    match GivenRule::new(kinds, wide, table) {
+        Ok(given) => answer_rule(heap, &given, workspace),
+        Err(_) => Ok(String::from_str(heap, "no rule")?),
     }
 }
 
-fn answer_table(
+fn answer_rule(
     heap: Global,
-    kinds: u32,
-    wide: u32,
-    table: Vec<u32>,
-    out: &mut [u32],
-    work: &mut [u32],
+    given: &GivenRule,
+    workspace: &mut Workspace,
 ) -> Result<String, Fault> {
-    let Ok(given) = GivenRule::new(kinds, wide, table) else {
-        return Ok(String::from_str(heap, "no rule")?);
-    };
-    match given.decide_in(out, work) {
+    match workspace.decide(given) {
         Decided::Twins(left, mid, right) => {
-            let (first, second) = two_rows(left, mid, right, out);
-            let verdict = check_twins(heap, given.rule(), first, second)?;
+            let (first, second) = two_rows(Lengths { left, mid, right }, workspace.told());
+            let verdict = check_twins(heap, given.rule().local, first, second)?;
             Ok(String::from_str(heap, verdict)?)
         }
         Decided::TwinsFull => Ok(String::from_str(heap, "twins")?),
         Decided::OrphanFull(n) => Ok(format!(in heap; "orphan of {n} cells")?),
-        decided => Ok(answer_line(heap, kinds, decided, out)?),
+        decided => Ok(answer_line(heap, given.kinds(), decided, workspace.told())?),
     }
 }
 
@@ -86,23 +72,11 @@ fn check_twins(
         return Ok("twins, but with the same middle");
     }
     for copies in 0..3 {
-        if !have_one_next(heap, rule, first, second, copies)? {
+        if next_of(heap, rule, first, copies)? != next_of(heap, rule, second, copies)? {
             return Ok("twins, but with different next rows");
         }
     }
     Ok("twins")
-}
-
-fn have_one_next(
-    heap: Global,
-    rule: LocalRule,
-    first: EndlessRow,
-    second: EndlessRow,
-    copies: usize,
-) -> Result<bool, Fault> {
-    let one = next_of(heap, rule, first, copies)?;
-    let other = next_of(heap, rule, second, copies)?;
-    Ok(one.as_slice() == other.as_slice())
 }
 
 // The next row of the middle of a row with so many copies on both sides.

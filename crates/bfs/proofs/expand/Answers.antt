@@ -1,16 +1,13 @@
-use Rattle.std.proofs.Common.{refl, ◌∙◌, le_antisymm, arith}
-use Rattle.bfs.proofs.Steps.{takes_new, at_none, at_some, expanding_push, expanding_skip, searched_next}
+use Rattle.std.proofs.Common.{◌∙◌, le_antisymm, arith}
+use Rattle.bfs.proofs.Pushes.{tail_lt}
+use Rattle.bfs.proofs.Steps.{at_none, at_some, expanding_push, expanding_skip, searched_next}
 use Rattle.bfs.proofs.expand.Goals as goal
 use Rattle.bfs.proofs.expand.Goals.{then-is_none, else-is_none}
 
-pub loop-symbol-init : goal.loop-symbol-init
-loop-symbol-init g c = record { searched = c.requires.begun; here = c.requires.inside; state = refl }
-
-pub place-requires : goal.place-requires
-place-requires g c = omega (arith, c.follow-next.ensures.below, c.loop-symbol.invariant.searched.1.holds.room.places_long)
-
-pub push-requires : goal.push-requires
-push-requires g c = takes_new c.loop-symbol.invariant c.follow-next.ensures.below c.place.result c.place.ensures c.if-is_none.ensures
+pub push-requires-clause-room : goal.push-requires-clause-room
+push-requires-clause-room g c =
+    let h = c.loop-symbol.invariant.searched.holds in
+    omega (arith, tail_lt h c.follow-next.ensures.below (at_none c.place.result c.place.ensures c.if-is_none.ensures), h.room)
 
 pub loop-symbol-preserved : goal.loop-symbol-preserved
 loop-symbol-preserved g c =

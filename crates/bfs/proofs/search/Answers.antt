@@ -1,16 +1,20 @@
-use Rattle.std.proofs.Common.{arith}
+use Rattle.std.proofs.Common.{sym, arith}
 use Rattle.bfs.proofs.Steps.{searched_start, at_some}
 use Rattle.bfs.proofs.Ends.{search_end}
 use Rattle.bfs.proofs.search.Goals as goal
-use Rattle.bfs.proofs.search.Goals.{then-loop-head-test+else-is_none, else-loop-head-test}
+use Rattle.bfs.proofs.search.Goals.{else-loop-head-test, then-loop-head-test+then-head-queue, then-head-queue-via-then-head-queue, then-head-queue-via-else-head-queue+then-is_some}
 
 pub loop-head-init : goal.loop-head-init
 loop-head-init g c = searched_start c.requires.empty c.requires.start c.push.ensures
 
 pub returns : goal.returns
 returns g c =
-    search_end c.loop-head.invariant c.args.target c.place-2.result c.place-2.ensures
+    let r = c.loop-head.invariant in
+    search_end r c.args.target c.place-2.result c.place-2.ensures
     (elim c.loop-head-test.branch [
-      | then-loop-head-test+else-is_none w ↦ λ new. absurd (omega (arith, new, (at_some w.place.result w.place.ensures w.if-is_none.ensures).1))
-      | else-loop-head-test w ↦ λ new. w.loop-head-test.false
+      | else-loop-head-test w ↦ λ new. omega (arith, w.loop-head-test.false, c.loop-head.queue.within, r.holds.room, c.states-head-end.ensures)
+      | then-loop-head-test+then-head-queue w ↦ elim w.then-head-queue.branch [
+        | then-head-queue-via-then-head-queue x ↦ λ new. x.if-head-queue.true
+        | then-head-queue-via-else-head-queue+then-is_some x ↦ λ new. absurd (omega (arith, new, (at_some x.place.result x.place.ensures (sym x.if-is_some.ensures)).1))
+      ]
     ])

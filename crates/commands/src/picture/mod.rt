@@ -2,7 +2,6 @@
 ghost use Rattle.std.specs.Prelude.{ℕ, List};
 ghost use Rattle.undone.specs.Decided.{Answer};
 ghost use Rattle.rules.specs.Local.{the_rule};
-ghost use Rattle.rules.specs.Rules.{Sound};
 
 mod prefixes;
 mod round_trip;
@@ -12,30 +11,33 @@ use crate::fault::Fault;
 use answers::answer::table_cells;
 use answers::endless::{split_front, two_rows as told_rows};
 use prefixes::draw_prefixes;
+use ring::RingRule;
 use round_trip::{draw_one_way, draw_round_trip};
 use rules::local::LocalRule;
+use rules::sound::SoundRule;
+use twins::Lengths;
 use two_rows::draw_two_rows;
 use undone::Decided;
 
 // Draws the reason for an answer, whose cells stand first in `out`.
-pub fn draw(rt: &HostRuntime, rule: LocalRule, decided: Decided, out: &[u32]) -> Result<(), Fault>
-    requires sound { Sound (the_rule rule) }
-    requires told { (o : List ℕ) × Answer (the_rule rule) o out.now decided }
+pub fn draw(rt: &HostRuntime, rule: SoundRule, decided: Decided, out: &[u32]) -> Result<(), Fault>
+    requires { (o : List ℕ) × Answer (the_rule rule.local) o out.now decided }
 {
     match decided {
         Decided::Undone(width, place) => {
-            let table = table_cells(rule.kinds(), width, out);
-            let back = LocalRule::new(rule.kinds(), width, table);
-            draw_round_trip(rt, rule, back, place as usize)
+            let table = table_cells(rule.local.kinds(), width, out);
+            let back = LocalRule::new(rule.local.kinds(), width, table);
+            let place = place as usize;
+            draw_round_trip(rt, rule.local, RingRule { rule: back, place })
         }
-        Decided::UndoneFull(_, _) => draw_one_way(rt, rule),
+        Decided::UndoneFull(_, _) => draw_one_way(rt, rule.local),
         Decided::Orphan(n) => {
             let (piece, _) = split_front(out, n);
             draw_prefixes(rt, rule, piece)
         }
         Decided::Twins(left, mid, right) => {
-            let (first, second) = told_rows(left, mid, right, out);
-            draw_two_rows(rt, rule, first, second)
+            let (first, second) = told_rows(Lengths { left, mid, right }, out);
+            draw_two_rows(rt, rule.local, first, second)
         }
         // There is nothing to draw of what does not fit in `out`.
         _ => Ok(()),

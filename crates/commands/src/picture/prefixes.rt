@@ -1,13 +1,15 @@
 // The blocks that preimages of each prefix of an orphan can end with, from all of them down to none.
 ghost use Rattle.std.specs.Prelude.{◌≡◌, ◌^◌, ◌<◌, length};
 ghost use Rattle.rules.specs.Local.{the_rule};
-ghost use Rattle.rules.specs.Rules.{Cells, Piece, Sound};
+ghost use Rattle.rules.specs.Rules.{Cells, Piece};
 
 use crate::fault::Fault;
+use orphans::automaton::SubsetSteps;
 use orphans::sets::BlockSet;
 use orphans::subsets::{Subsets, write_masks};
 use rules::cells::Kind;
 use rules::local::LocalRule;
+use rules::sound::SoundRule;
 use std::alloc::{AllocError, Global};
 
 // A piece of more cells is cut: so many prefixes from its start on are drawn, and so many up to its end.
@@ -17,11 +19,10 @@ const FIRST_LINES: usize = 16;
 
 const LAST_LINES: usize = 7;
 
-pub fn draw_prefixes(rt: &HostRuntime, rule: LocalRule, piece: &[u32]) -> Result<(), Fault>
-    requires sound { Sound (the_rule rule) }
-    requires cells { Piece (the_rule rule) piece.now }
+pub fn draw_prefixes(rt: &HostRuntime, rule: SoundRule, piece: &[u32]) -> Result<(), Fault>
+    requires { Piece (the_rule rule.local) piece.now }
 {
-    let windows = rule.blocks() * rule.kinds() as usize;
+    let windows = rule.local.blocks() * rule.local.kinds() as usize;
     let mut masks = vec![in rt.alloc(); 0; windows]?;
     draw_with(rt, rule, piece, masks.as_mut_slice())
 }
@@ -29,17 +30,16 @@ pub fn draw_prefixes(rt: &HostRuntime, rule: LocalRule, piece: &[u32]) -> Result
 // Draws with lent words for the masks.
 fn draw_with(
     rt: &HostRuntime,
-    rule: LocalRule,
+    rule: SoundRule,
     piece: &[u32],
     masks: &mut [u32],
 ) -> Result<(), Fault>
-    requires sound { Sound (the_rule rule) }
-    requires cells { Piece (the_rule rule) piece.now }
-    requires room { length masks.old ≡ rule.kinds ^ rule.wide }
+    requires cells { Piece (the_rule rule.local) piece.now }
+    requires room { length masks.old ≡ rule.local.kinds ^ rule.local.wide }
 {
-    write_masks(rule, masks, 0);
-    let subsets = Subsets::new(rule, masks);
-    draw_blocks(rt, rule)?;
+    write_masks(rule.local, masks, 0);
+    let subsets = Subsets::new(rule.local, masks);
+    draw_blocks(rt, rule.local)?;
     draw_sets(rt, subsets, piece)
 }
 
@@ -56,23 +56,20 @@ fn draw_blocks(rt: &HostRuntime, rule: LocalRule) -> Result<(), Fault> {
 
 // Of each block the cell that stands so many places before its last.
 fn block_digits(heap: Global, rule: LocalRule, place: u32) -> Result<String, AllocError> {
-    let mut digits = String::new(heap);
-    for block in 0..rule.blocks() {
-        let cell = digit_at(rule.kinds() as usize, block, place);
-        digits.push_str(format!(in heap; " {cell:x}")?.as_str())?;
-    }
-    Ok(digits)
+    (0..rule.blocks())
+        .map(|block| {
+            let cell = digit_at(rule.kinds() as usize, block, place);
+            format!(in heap; " {cell:x}")
+        })
+        .try_collect(heap)
 }
 
 // The digit of a number that stands so many places before its last.
 fn digit_at(kinds: usize, number: usize, place: u32) -> usize
     requires { 0 < kinds }
 {
-    let mut rest = number;
-    for _digit in 0..place {
-        rest /= kinds;
-    }
-    rest % kinds
+    let weight = kinds.saturating_pow(place);
+    number.checked_div(weight).unwrap_or(0) % kinds
 }
 
 // A line for each prefix: how many cells it has, the last of them, and the set of blocks.
@@ -117,9 +114,7 @@ fn draw_set(
 fn set_marks(heap: Global, blocks: usize, set: BlockSet) -> Result<String, AllocError>
     requires { blocks < 32 }
 {
-    let mut marks = String::new(heap);
-    for block in 0..blocks {
-        marks.push_str(if set.has(block) { " #" } else { " ." })?;
-    }
-    Ok(marks)
+    (0..blocks)
+        .map(|block| if set.has(block) { " #" } else { " ." })
+        .collect(heap)
 }

@@ -4,7 +4,7 @@ use answers::endless::EndlessRow;
 use rules::local::LocalRule;
 use rules::row::next_row;
 use std::alloc::{AllocError, Global};
-use text::print::write_cells;
+use text::print::{Alphabet, write_cells};
 
 // A label, so many cells and the dots on both sides make a line of 79 columns at most.
 const COLUMNS: usize = 64;
@@ -63,13 +63,13 @@ impl View {
 
     // A line under the cells of the middle.
     fn underline(self, heap: Global) -> Result<String, AllocError> {
-        let mut line = String::new(heap);
-        for column in 0..COLUMNS {
-            let place = self.start.saturating_add(column);
-            let inside = self.mid <= place && place - self.mid < self.mid_cells;
-            line.push(if inside { '-' } else { ' ' })?;
-        }
-        Ok(line)
+        (0..COLUMNS)
+            .map(|column| {
+                let place = self.start.saturating_add(column);
+                let inside = self.mid <= place && place - self.mid < self.mid_cells;
+                if inside { '-' } else { ' ' }
+            })
+            .collect(heap)
     }
 }
 
@@ -98,27 +98,27 @@ pub fn draw_two_rows(
 
 fn draw_row(rt: &HostRuntime, label: &str, cells: &[u32]) -> Result<(), Fault> {
     let mut line = String::new(rt.alloc());
-    write_cells(&mut line, &cells[0..cells.len().min(COLUMNS)])?;
+    write_cells(
+        &mut line,
+        Alphabet::Digits,
+        &cells[0..cells.len().min(COLUMNS)],
+    )?;
     Ok(println!(rt; "{label:<10}..{line}..")?)
 }
 
 // A mark at each cell that differs.
 fn difference_marks(heap: Global, one: &[u32], other: &[u32]) -> Result<String, AllocError> {
-    let mut marks = String::new(heap);
-    for (a, b) in one.iter().zip(other.iter()).take(COLUMNS) {
-        marks.push(if a == b { ' ' } else { '^' })?;
-    }
-    Ok(marks)
+    one.iter()
+        .zip(other)
+        .take(COLUMNS)
+        .map(|(a, b)| if a == b { ' ' } else { '^' })
+        .collect(heap)
 }
 
 // Where two middles differ first.
 fn first_difference(one: &[u32], other: &[u32]) -> usize {
-    for (place, (a, b)) in one.iter().zip(other.iter()).enumerate() {
-        if a != b {
-            return place;
-        }
-    }
-    0
+    let differs = one.iter().zip(other).position(|(a, b)| a != b);
+    differs.unwrap_or(0)
 }
 
 fn draw_note(rt: &HostRuntime, hidden: usize) -> Result<(), Fault> {

@@ -1,33 +1,38 @@
-use Rattle.std.proofs.Common.{◌≡◌, ◌+◌, ◌*◌, sym, subst, ap₂}
-use Rattle.std.specs.List.{between}
-use Rattle.pairs.specs.declared.Direction.TheVariants.{Past, Future}
+use Rattle.std.proofs.Common.{◌+◌, ◌<◌, arith}
 use Rattle.rules.specs.Local.{the_rule}
-use Rattle.pairs.specs.Pairs.{pairs_of, Depths, Writes, Graph}
-use Rattle.pairs.proofs.Sweeps.{graph_from_writes}
+use Rattle.rules.proofs.Tables.{sound_rule}
+use Rattle.pairs.specs.Pairs.{pairs_of}
+use Rattle.pairs.proofs.Walks.{pairs_le, wide_le}
+use Rattle.inverse.proofs.Widths.{none_less, refuted_none, refuted_more, none_told_lt}
 use Rattle.inverse.proofs.least_way_back.Goals as goal
-use Rattle.inverse.proofs.least_way_back.Goals.{After-futures}
+use Rattle.inverse.proofs.least_way_back.Goals.{In_default-first_told}
 
--- how many pairs there are
-pairs : (c : After-futures) → c.blocks-2.result * c.blocks-3.result ≡ pairs_of (the_rule c.args.rule)
-pairs c = ap₂ ◌*◌ c.blocks-2.ensures c.blocks-3.ensures
+pub widths-init : goal.widths-init
+widths-init c = refuted_none (sound_rule c.args.depths.rule)
 
-graph : (c : After-futures) → Graph (the_rule c.args.rule) c.args.base c.args.work.now c.futures.new.work
-graph c =
-    let r = the_rule c.args.rule in
-    graph_from_writes r c.args.base c.args.work.now c.pasts.new.work c.futures.new.work c.pasts.ensures (subst (λ n. Writes r Future (c.args.base + n) c.pasts.new.work c.futures.new.work) (pairs c) c.futures.ensures)
+pub first_told-requires-clause-fits : goal.first_told-requires-clause-fits
+first_told-requires-clause-fits c =
+    let r = the_rule c.args.depths.rule.local in
+    let sound = sound_rule c.args.depths.rule in
+    omega (arith, wide_le r sound, pairs_le r sound, c.widths.invariant.most)
 
-pub least_told-requires : goal.least_told-requires
-least_told-requires c =
-    let r = the_rule c.args.rule in
-    let ws = c.futures.new.work in
-    let base = c.args.base in
-    let d = (goal.at.least_told-requires c).After-futures in (
-      c.requires.0,
-      (
-        subst (λ n. Depths r Past (between base (base + n) ws)) (sym (pairs d)) (graph d).pasts,
-        subst (λ n. Depths r Future (between (base + n) ((base + n) + n) ws)) (sym (pairs d)) (graph d).futures,
-      ),
-    )
+pub returns-in-Some-first_told : goal.returns-in-Some-first_told
+returns-in-Some-first_told c =
+    let told = c.in-Some-first_told.ensures in
+    record {
+      some = c.widths.invariant.some;
+      inside = told.inside;
+      tells = told.tells;
+      least = none_less (the_rule c.args.depths.rule.local) c.args.depths.rule.local.some c.widths.width _ c.widths.invariant told;
+    }
 
-pub returns : goal.returns
-returns c = record { answers = c.least_told.ensures; graph = graph (goal.at.returns c).After-futures }
+-- no width that is refuted is the last
+further : (c : In_default-first_told) → c.widths.width < pairs_of (the_rule c.args.depths.rule.local) + pairs_of (the_rule c.args.depths.rule.local)
+further c =
+    none_told_lt (the_rule c.args.depths.rule.local) (sound_rule c.args.depths.rule) c.args.depths.pasts.now c.args.depths.futures.now c.requires.pasts c.requires.futures c.in_default.ensures c.widths.width c.in_default-first_told.ensures
+
+pub widths-smaller : goal.widths-smaller
+widths-smaller c = let h = further c in omega arith
+
+pub widths-preserved : goal.widths-preserved
+widths-preserved c = refuted_more c.widths.invariant c.in_default-first_told.ensures (further c)

@@ -1,48 +1,38 @@
-use Rattle.std.proofs.Common.{◌≡◌, ℕ, List, length, sym, subst, arith}
+use Rattle.std.proofs.Common.{ℕ, List, length, subst, arith}
+use Rattle.std.proofs.lemmas.Bool.{false≢true}
 use Rattle.undone.specs.declared.Decided.{Decided}
 use Rattle.undone.specs.Decided.{Answer, DecidedPost}
 use Rattle.rules.specs.Local.{the_rule}
-use Rattle.rules.specs.Rules.{rule_of, Sound}
+use Rattle.rules.proofs.Tables.{sound_rule}
 use Rattle.undone.proofs.Decisions.{enough, decided, decided_few, decided_no_rule}
-use Rattle.rules.proofs.Tables.{unsound_from_unfit}
 use Rattle.undone.proofs.decide.Goals as goal
-use Rattle.undone.proofs.decide.Goals.{After-new-rule}
-
--- the checked table is that of the rule
-same : (c : After-new-rule) → the_rule c.new-rule.result ≡ rule_of c.args.kinds c.args.wide c.args.table.now
-same c = λ i. record { kinds = c.new-rule.ensures.kinds i; wide = c.new-rule.ensures.wide i; table = c.new-rule.ensures.table i }
+use Rattle.undone.proofs.decide.Goals.{In-Ok}
 
 pub returns-then-work-lt-WORK : goal.returns-then-work-lt-WORK
 returns-then-work-lt-WORK c = decided_few _ _ _ _ _ c.if-work-lt-WORK.true
 
 pub returns-in_default : goal.returns-in_default
 returns-in_default c =
-    decided_no_rule _ _ _ _ _ (omega arith) (unsound_from_unfit c.args.kinds c.args.wide c.args.table.now _ c.in_default.ensures.says)
-
--- the rule is one that can be decided
-sound : (c : After-new-rule) → Sound (the_rule c.new-rule.result)
-sound c = subst Sound (sym (same c)) c.in-Ok.ensures.says.0
-
--- an answer that holds of the checked table
-answered : (c : After-new-rule) (o' : List ℕ) (d : Decided) → Answer (the_rule c.new-rule.result) c.args.out.now o' d → DecidedPost c.args.kinds c.args.wide c.args.table.now (length c.args.work.now) c.args.out.now o' d
-answered c o' d answer =
-    decided _ _ _ _ _ o' d (omega arith) c.in-Ok.ensures.says.0 (subst (λ r. Answer r c.args.out.now o' d) (same c) answer)
+    decided_no_rule _ _ _ _ _ (omega arith) (λ s. absurd (false≢true (c.in_default.ensures.exact s)))
 
 pub first_orphan_by_halves-requires : goal.first_orphan_by_halves-requires
 first_orphan_by_halves-requires c =
-    let s = sound (goal.at.first_orphan_by_halves-requires c).After-new-rule in
-    record { sound = s; room = omega (arith, enough (the_rule c.new-rule.result) s) }
+    omega (arith, enough (the_rule c.in-Ok.rule.local) (sound_rule c.in-Ok.rule))
 
-pub returns-in-Word : goal.returns-in-Word
-returns-in-Word c = answered (goal.at.returns-in-Word c).After-new-rule _ _ c.in-Word.ensures
+-- an answer that holds of the checked table
+answered : (c : In-Ok) (o' : List ℕ) (d : Decided) → Answer (the_rule c.in-Ok.rule.local) c.args.out.now o' d → DecidedPost c.args.kinds c.args.wide c.args.table.now (length c.args.work.now) c.args.out.now o' d
+answered c o' d answer =
+    decided _ _ _ _ _ o' d (omega arith) c.in-Ok.ensures.says.1 (subst (λ r. Answer r c.args.out.now o' d) c.in-Ok.ensures.says.0 answer)
 
-pub returns-in-Long : goal.returns-in-Long
-returns-in-Long c = answered (goal.at.returns-in-Long c).After-new-rule _ _ c.in-Long.ensures
+pub returns-in-Ok-Some : goal.returns-in-Ok-Some
+returns-in-Ok-Some c =
+    answered (goal.at.returns-in-Ok-Some c).In-Ok _ _ (rw c.in-Ok-Some.field-0-is at c.in-Ok-Some.ensures)
 
-pub invert-requires : goal.invert-requires
-invert-requires c = record { sound = sound (goal.at.invert-requires c).After-new-rule; none = c.in-Nothing.ensures.0; room = omega arith }
+pub returns-in-Ok-None : goal.returns-in-Ok-None
+returns-in-Ok-None c =
+    let none = rw c.in-Ok-None.field-0-is at c.in-Ok-None.ensures in
+    answered (goal.at.returns-in-Ok-None c).In-Ok _ _
+    (subst (λ o. Answer (the_rule c.in-Ok.rule.local) o c.invert.new.out c.invert.result) none.1 c.invert.ensures)
 
-pub returns-in-Nothing : goal.returns-in-Nothing
-returns-in-Nothing c =
-    answered (goal.at.returns-in-Nothing c).After-new-rule _ _
-    (subst (λ o. Answer (the_rule c.new-rule.result) o c.invert.new.out c.invert.result) c.in-Nothing.ensures.1 c.invert.ensures)
+pub returns-in-Err : goal.returns-in-Err
+returns-in-Err c = answered (goal.at.returns-in-Err c).In-Ok _ _ c.in-Err.ensures

@@ -1,19 +1,11 @@
-use Rattle.std.proofs.Common.{◌+◌, ◌-◌, take, drop, subst, arith}
-use Rattle.pairs.specs.declared.Direction.TheVariants.{Past, Future}
+use Rattle.std.proofs.Common.{arith}
 use Rattle.rules.specs.Local.{the_rule}
-use Rattle.pairs.specs.Pairs.{pairs_of, Depths}
+use Rattle.rules.proofs.Tables.{sound_rule}
+use Rattle.pairs.proofs.Walks.{pairs_le, wide_le}
 use Rattle.undone.proofs.invert.Goals as goal
 
-pub tell_twins-requires : goal.tell_twins-requires
-tell_twins-requires c =
-    let r = the_rule c.args.rule in
-    let n = pairs_of r in
-    let ws = c.least_way_back.new.work in
-    let graph = c.in-Twins.ensures.graph in
-    record {
-      sound = c.requires.sound;
-      none = c.requires.none;
-      pair = c.in-Twins.ensures.answers;
-      graph = (subst (λ l. Depths r Past (take l ws)) {x = (0 + n) - 0} {y = n} (omega arith) graph.pasts, subst (λ l. Depths r Future (take l (drop n ws))) {x = ((0 + n) + n) - (0 + n)} {y = n} (omega arith) (subst (λ i. Depths r Future (take (((0 + n) + n) - (0 + n)) (drop i ws))) {x = 0 + n} {y = n} (omega arith) graph.futures));
-      room = omega (arith, c.requires.room);
-    }
+pub tell_twins-requires-clause-room : goal.tell_twins-requires-clause-room
+tell_twins-requires-clause-room c =
+    let r = the_rule c.args.rule.local in
+    let sound = sound_rule c.args.rule in
+    omega (arith, pairs_le r sound, wide_le r sound, c.split_at_mut-words.ensures.back_len, c.requires.room)

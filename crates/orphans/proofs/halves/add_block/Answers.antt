@@ -1,4 +1,4 @@
-use Rattle.std.proofs.Common.{◌≡◌, ℕ, ◌+◌, ◌%◌, ◌<◌, List, length, get_or, set, sym, refl, ap, ◌∙◌, subst, ap₂, ⊎_elim, mod-lt, mod-eq_of_lt, arith, rules}
+use Rattle.std.proofs.Common.{◌≡◌, ℕ, ◌+◌, ◌%◌, ◌<◌, List, length, get_or, set, sym, ap, ◌∙◌, subst, ap₂, ⊎_elim, mod-lt, mod-eq_of_lt, arith}
 use native.Mathlib.Nat.{mod_self, mod-add-mod}
 use lib.Bits.{bit_or}
 use Rattle.std.proofs.lemmas.List.{get_or-set_same, get_or-set_other}
@@ -9,15 +9,6 @@ use Rattle.orphans.proofs.halves.add_block.Goals.{then-kind-mask, else-kind-mask
 -- the kind is one of the mask's
 kind_lt : (i n kind : ℕ) → 0 < n → kind ≡ i % n → kind < n
 kind_lt i n kind some is = omega (arith, mod-lt i some)
-
-pub loop-i-init : goal.loop-i-init
-loop-i-init c = (sym (mod-eq_of_lt c.requires.some), (λ q l. refl), λ q l. absurd (omega arith))
-
-pub offset_bounds-mask-kind : goal.offset_bounds-mask-kind
-offset_bounds-mask-kind c = let l = kind_lt c.loop-i.i (length c.args.mask.now) c.loop-i.kind c.requires.some c.loop-i.invariant.0 in search rules
-
-pub bounds-mask-kind : goal.bounds-mask-kind
-bounds-mask-kind c = kind_lt c.loop-i.i (length c.args.mask.now) c.loop-i.kind c.requires.some c.loop-i.invariant.0
 
 pub loop-i-preserved : goal.loop-i-preserved
 loop-i-preserved c = (
@@ -60,6 +51,3 @@ loop-i-preserved c = (
 
     before : (q : ℕ) → q < i + 1 → (q ≡ i → ⊥) → Right q
     before q l apart = get_or-set_other ts (w + i) (w + q) v 0 (λ e. apart (omega arith)) ∙ c.loop-i.invariant.2 q (omega arith)
-
-pub returns : goal.returns
-returns c = record { without = c.loop-i.invariant.1; besides = λ q l. c.loop-i.invariant.2 q (omega (arith, c.loop-i-test.false)) }

@@ -1,4 +1,4 @@
-use Rattle.std.proofs.Common.{◌≡◌, ℕ, ◌+◌, ◌-◌, ◌*◌, ◌%◌, ◌^◌, ◌<◌, ◌≤◌, length, get_or, take, drop, sym, ap, ◌∙◌, subst, mul-le-mul_right, mod-lt, mul_comm, add-mul, le_antisymm, pow-suc, add-one, arith, length-drop, length-take, get_or-drop, get_or-take, pow_mono, rules}
+use Rattle.std.proofs.Common.{◌≡◌, ℕ, ◌+◌, ◌-◌, ◌*◌, ◌%◌, ◌^◌, ◌<◌, ◌≤◌, length, get_or, take, drop, sym, ap, ◌∙◌, subst, mul-le-mul_right, mod-lt, mul_comm, add-mul, pow-suc, add-one, arith, length-drop, length-take, get_or-drop, get_or-take, pow_mono, rules}
 use native.Mathlib.Nat.{pow-zero}
 use lib.Bits.{bit_or}
 use Rattle.std.proofs.lemmas.Nat.{shl_whole}
@@ -8,7 +8,7 @@ use Rattle.rules.specs.Rules.{blocks_of}
 use Rattle.rules.proofs.Tables.{pow_pred}
 use Rattle.orphans.specs.Subsets.{follow}
 use Rattle.orphans.proofs.Follow.{mask_at}
-use Rattle.orphans.proofs.Followers.{filled_none, filled_more, followers_from_filled}
+use Rattle.orphans.proofs.Followers.{filled_none, filled_more}
 use Rattle.orphans.proofs.halves.write_followers.Goals as goal
 use Rattle.orphans.proofs.halves.write_followers.Goals.{After-kinds-kinds}
 
@@ -28,17 +28,11 @@ module _ (c : After-kinds-kinds) where
       let k = c.kinds-kinds.result in
       omega (arith, add-mul (c.args.first + i) 1 k, mul-le-mul_right {m = c.args.first + i + 1} {n = blocks_of (the_rule c.args.rule)} k (omega (arith, c.requires.blocks)), ap (λ k. blocks_of (the_rule c.args.rule) * k) c.kinds-kinds.ensures, pow_pred c.args.rule.kinds c.args.rule.wide c.args.rule.some, c.requires.masks.full)
 
-pub slice_bounds-fill-end : goal.slice_bounds-fill-end
-slice_bounds-fill-end c = let l : c.kinds-kinds.result ≤ length c.args.table.now = omega (arith, rows-le c 0 (omega arith), pow-zero 2) in search rules
-
 pub loop-block-init : goal.loop-block-init
 loop-block-init c =
     let k = c.kinds-kinds.result in
     let l : k ≤ length c.args.table.now = omega (arith, rows-le (goal.at.loop-block-init c).After-kinds-kinds 0 (omega arith), pow-zero 2) in
     filled_none (λ p below. get_or_append_left c.fill.new.self _ 0 p (omega (arith, c.fill.ensures.len, length-take (k - 0) c.args.table.now, c.kinds-kinds.ensures)) ∙ subst (λ ts. get_or ts p 0 ≡ 0) (sym (c.fill.ensures.after (λ y e. e))) (get_or-replicate (length (take (k - 0) c.args.table.now)) p 0 0 (omega (arith, length-take (k - 0) c.args.table.now, c.kinds-kinds.ensures))))
-
-pub offset_bounds-masks-row : goal.offset_bounds-masks-row
-offset_bounds-masks-row c = let l = mask-row-le (goal.at.offset_bounds-masks-row c).After-kinds-kinds c.loop-block.block c.loop-block-test.true in search rules
 
 pub slice_bounds-add_block-end : goal.slice_bounds-add_block-end
 slice_bounds-add_block-end c = let l = mask-row-le (goal.at.slice_bounds-add_block-end c).After-kinds-kinds c.loop-block.block c.loop-block-test.true in search rules
@@ -70,6 +64,3 @@ loop-block-preserved c =
     ∙ mask_at c.requires.masks c.args.rule.some k (c.args.first + b) x c.kinds-kinds.ensures (omega (arith, c.requires.blocks, c.loop-block-test.true)) l in
     filled_more ((k * 2 ^ b) % 2 ^ 64) (omega arith) (shifted a b (omega arith) ∙ ap (λ k. 2 ^ b * k) c.kinds-kinds.ensures) c.loop-block.invariant c.add_block.ensures.without
     (λ q l. c.add_block.ensures.besides q l ∙ ap (bit_or (get_or c.loop-block.table q 0)) (ap (λ n. get_or mask (q % n) 0) long ∙ at (q % r.kinds) (mod-lt q (omega arith))))
-
-pub returns : goal.returns
-returns c = followers_from_filled (omega (arith, c.loop-block.auto.table, c.requires.room)) (le_antisymm c.loop-block.auto.block-end c.loop-block-test.false) c.loop-block.invariant

@@ -2,7 +2,7 @@ use Rattle.std.proofs.Common.{◌≡◌, ◌-◌, ◌*◌, ◌^◌, ◌<◌, ap,
 use native.Mathlib.Nat.{one-le-pow}
 use Rattle.rules.specs.Local.{the_rule}
 use Rattle.rules.proofs.Tables.{windows_of_blocks}
-use Rattle.ring.proofs.Shifting.{bits_lt, shifted_none, masked_lt, shifted_more, shifted_row, shifted_block}
+use Rattle.ring.proofs.Shifting.{bits_lt, masked_lt, shifted_more, shifted_row}
 use Rattle.ring.proofs.turn.shift_through.Goals as goal
 use Rattle.ring.proofs.turn.shift_through.Goals.{After-kinds}
 
@@ -14,14 +14,8 @@ windows c =
 small : (c : After-kinds) → c.args.rule.kinds ^ c.args.rule.wide < 2 ^ 64
 small c = omega (arith, c.args.rule.full)
 
-pub overflow_mul-mask : goal.overflow_mul-mask
-overflow_mul-mask c = record { fits = omega (arith, windows c, small c) }
-
 pub overflow_sub-mask : goal.overflow_sub-mask
 overflow_sub-mask c = omega (arith, windows c, one-le-pow c.args.rule.wide c.args.rule.kinds (omega (arith, c.args.rule.two)))
-
-pub loop-i-init : goal.loop-i-init
-loop-i-init c b ends = shifted_none c.args.from.now c.args.to.now ends
 
 pub overflow_shl-number : goal.overflow_shl-number
 overflow_shl-number c = bits_lt c.args.rule.kinds c.args.bits c.requires.bits (omega arith)
@@ -36,9 +30,5 @@ loop-i-preserved c b ends =
     let a = (goal.at.loop-i-preserved c).After-kinds in
     shifted_more (the_rule c.args.rule) c.args.bits c.requires.bits c.args.rule.some (small a) (c.loop-i.invariant b ends) ends.long c.requires.cells (omega arith) (omega arith) (ap (λ w. w - 1) (windows a)) c.cell.ensures
 
-pub returns : goal.returns
-returns c =
-    record {
-      row = λ b ends. shifted_row c.args.rule.some (c.loop-i.invariant b ends) ends.long (omega arith) (omega arith);
-      block = λ b ends. shifted_block (c.loop-i.invariant b ends) ends.long (omega arith);
-    }
+pub returns-clause-row : goal.returns-clause-row
+returns-clause-row c b ends = shifted_row c.args.rule.some (c.loop-i.invariant b ends) ends.long (omega arith) (omega arith)

@@ -1,6 +1,6 @@
-use Rattle.std.proofs.Common.{◌<◌, length, get_or, subst, arith}
+use Rattle.std.proofs.Common.{get_or, subst, arith}
 use Rattle.text.specs.Parsed.{DigitOf, NotDigit}
-use Rattle.text.proofs.Read.{digit_same, spells_more, stops_at, reads_all}
+use Rattle.text.proofs.Read.{digit_same, stops_at, reads_all}
 use Rattle.text.proofs.parse.parse_cells.Goals as goal
 use Rattle.text.proofs.parse.parse_cells.Goals.{In-Some}
 
@@ -17,12 +17,6 @@ pub returns-then-kind-kinds : goal.returns-then-kind-kinds
 returns-then-kind-kinds c =
     let here = found (goal.at.returns-then-kind-kinds c).In-Some in
     (stops_at _ _ _ _ (omega arith) c.loop-place.invariant (λ v below other. omega (arith, digit_same _ _ _ other here)), here, omega arith)
-
-pub loop-place-preserved : goal.loop-place-preserved
-loop-place-preserved c =
-    let here = found (goal.at.loop-place-preserved c).In-Some in
-    let inside : c.loop-place.place < length c.args.text.now = omega arith in
-    rw c.in_ok-push.ensures.items (spells_more _ _ _ _ _ inside c.loop-place.invariant here c.if-kind-kinds.false)
 
 pub returns : goal.returns
 returns c = reads_all _ _ _ _ (omega arith) c.loop-place.invariant

@@ -1,0 +1,50 @@
+// What the programs do around the commands: they take their arguments, or lines of standard input, and tell what is wrong.
+ghost use Rattle.std.specs.Prelude.{◌≡◌};
+
+use crate::decide::decide;
+use crate::fault::Fault;
+use crate::run::run;
+use crate::words::split_words;
+use std::env;
+use std::process::ExitCode;
+
+// Carries out a command by the arguments of the program that has its name.
+pub fn carry_out<F: FnOnce(&HostRuntime, &[String]) -> Result<(), Fault>>(
+    rt: &HostRuntime,
+    name: &str,
+    command: F,
+) -> Result<ExitCode, Fault>
+    requires { F.IsAlwaysCallable command }
+{
+    let words = env::args(rt)?.skip(1).collect::<Vec<String>>(rt.alloc())?;
+    if let Err(fault) = command(rt, words.as_slice()) {
+        eprintln!(rt; "{name}: {fault}. Try --help.")?;
+        return Ok(ExitCode::FAILURE);
+    }
+    Ok(ExitCode::SUCCESS)
+}
+
+// Carries out command lines from standard input, so that pictures and refusals are compared as well as rows. What every line
+// begins with is put in front of it.
+pub fn carry_out_lines(rt: &HostRuntime, begin: &str) -> Result<(), Fault> {
+    for line in rt.lines(rt.alloc()) {
+        let line = line?;
+        let line = format!(in rt.alloc(); "{begin}{line}")?;
+        println!(rt; "$ {line}")?;
+        let words = split_words(rt.alloc(), line.as_str())?;
+        if let Err(fault) = carry_out_words(rt, words.as_slice()) {
+            let name = words.first().map_or("", |word| word.as_str());
+            println!(rt; "{name}: {fault}")?;
+        }
+    }
+    Ok(())
+}
+
+// The first word is the command, and the others are its arguments: a `match`, since two commands need no table of functions.
+fn carry_out_words(rt: &HostRuntime, words: &[String]) -> Result<(), Fault> {
+    match words {
+        [name, args @ ..] if name.as_str() == "decide" => decide(rt, args),
+        [name, args @ ..] if name.as_str() == "run" => run(rt, args),
+        _ => Err(Fault::FewArguments),
+    }
+}

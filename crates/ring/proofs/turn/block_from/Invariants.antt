@@ -1,5 +1,0 @@
-use Rattle.ring.proofs.Rolling.{Block}
-use Rattle.ring.proofs.turn.block_from.Given as goal
-
-abbrev pub invariant-loop-i : goal.invariant-loop-i
-invariant-loop-i l = Block l.rule.kinds l._i l.from l.first l.block.0 l.last

@@ -1,6 +1,0 @@
-use Rattle.std.proofs.Common.{◌≡◌, ◌++◌, take, string_bytes}
-use Rattle.text.specs.Letters.{shown}
-use Rattle.text.proofs.print.append.Given as goal
-
-abbrev pub invariant-loop-cell : goal.invariant-loop-cell
-invariant-loop-cell l = string_bytes l.line ≡ string_bytes l.initial.line ++ shown l.alphabet (take l.cell-index l.cells)
