@@ -17,7 +17,8 @@ impl fmt::Display for Cells<'_> {
     }
 }
 
-// The cells of a number.
+// The cells of a number. That there is a kind is a clause here and in two more small functions: a type for one number above 0
+// would be made at each call.
 pub fn cells_of(
     heap: Global,
     kinds: u32,
