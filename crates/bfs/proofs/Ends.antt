@@ -1,10 +1,10 @@
 -- How the search ends: the target is found, and its word is the first; or each state that is found is expanded, and no word
 -- leads there.
-use Rattle.std.proofs.Common.{◌≡◌, ℕ, ◌+◌, ◌*◌, ◌<◌, ◌≤◌, List, [], ◌∷◌, Some, None, Option, sym, ap, ◌∙◌, ⊎_elim, mul-le-mul_right, arith, MatchOption}
+use Rattle.std.proofs.Common.{◌≡◌, ℕ, ◌+◌, ◌*◌, ◌<◌, ◌≤◌, List, [], ◌∷◌, Some, None, Option, sym, refl, ap, ◌∙◌, subst, slice_index, ⊎_elim, mul-le-mul_right, arith, MatchOption}
 use Rattle.std.proofs.lemmas.Bool.{cases_eq, cases_lt}
 use Rattle.bfs.specs.declared.queue.Queue.{Queue}
 use Rattle.bfs.specs.Words.{run, Over, NoWord}
-use Rattle.bfs.specs.Search.{state_at, mark_of, rank, rank_of, PlaceOf, origin, Holds, Searched, FirstAt}
+use Rattle.bfs.specs.Search.{state_at, rank, rank_of, FoundAt, IsNew, PlaceOf, origin, Holds, Searched, FirstAt}
 use Rattle.bfs.proofs.Ranks.{rank_ge, first_from_rank}
 
 module _ {n k : ℕ} {leads : ℕ → ℕ → ℕ} {s : ℕ} {q : Queue} {p : ℕ} (r : Searched n k leads s q p 0) where
@@ -16,50 +16,47 @@ module _ {n k : ℕ} {leads : ℕ → ℕ → ℕ} {s : ℕ} {q : Queue} {p : �
 
   -- no word from a place on is before the word of t: by the places that are expanded it leads to a word no later, and by the
   -- others to words that come after all in the queue
-  least_from : (t i : ℕ) → mark_of q t ≡ i + 1 → (j x : ℕ) (w : List ℕ) → j < q.tail → rank_of k q j ≤ x → Over k w → run leads (state_at q j) w ≡ t → rank_of k q i ≤ rank k x w
+  least_from : (t i : ℕ) → FoundAt q t i → (j x : ℕ) (w : List ℕ) → j < q.tail → rank_of k q j ≤ x → Over k w → run leads (state_at q j) w ≡ t → rank_of k q i ≤ rank k x w
   least_from t i at j x [] l le over arrives =
-      let same : i ≡ j = omega (arith, h.marked j l, ap (mark_of q) arrives) in
+      let same : i ≡ j = omega (arith, q.placed i at.inside, q.placed j l, ap (slice_index q.places.now) (at.state ∙ sym arrives)) in
       omega (arith, ap (rank_of k q) same)
   least_from t i at j x (d ∷ w) l le over arrives =
       ⊎_elim
       (λ done.
       let met = r.expanded j d done over.0 in
-      let known = h.placed (leads (state_at q j) d) met.0 met.1 in
-      least_from t i at met.0 (x * k + d + 1) w known.0 (omega (arith, met.2, scaled)) over.1 (ap (λ u. run leads u w) known.1 ∙ arrives))
+      least_from t i at met.0 (x * k + d + 1) w met.1.inside (omega (arith, met.2, scaled)) over.1 (ap (λ u. run leads u w) met.1.state ∙ arrives))
       (λ ahead.
       let next = mul-le-mul_right {m = rank_of k q p} {n = rank_of k q j} k (later p j ahead l) in
-      omega (arith, r.next i (h.placed t i at).0 (omega arith), next, scaled, rank_ge k (x * k + d + 1) w over.1))
+      omega (arith, r.next i at.inside (omega arith), next, scaled, rank_ge k (x * k + d + 1) w over.1))
       (cases_lt j p)
     where
       scaled : rank_of k q j * k ≤ x * k
       scaled = mul-le-mul_right {m = rank_of k q j} {n = x} k le
 
   -- every word leads to a state that is found, once all that are found are expanded
-  found_from : q.tail ≤ p → (j : ℕ) (w : List ℕ) → j < q.tail → Over k w → mark_of q (run leads (state_at q j) w) ≡ 0 → ⊥
-  found_from all j [] l over new = omega (arith, h.marked j l)
+  found_from : q.tail ≤ p → (j : ℕ) (w : List ℕ) → j < q.tail → Over k w → IsNew q (run leads (state_at q j) w) → ⊥
+  found_from all j [] l over new = new j (record { inside = l; state = refl })
   found_from all j (d ∷ w) l over new =
       let met = r.expanded j d (omega arith) over.0 in
-      let known = h.placed (leads (state_at q j) d) met.0 met.1 in
-      found_from all met.0 w known.0 over.1 (ap (λ u. mark_of q (run leads u w)) known.1 ∙ new)
+      found_from all met.0 w met.1.inside over.1 (subst (λ u. IsNew q (run leads u w)) (sym met.1.state) new)
 
   -- the search began with s
   origin_is : origin q ≡ s
   origin_is = sym (h.runs 0 h.some)
 
   -- the word by which the target is found is the first
-  first_from_found : (t i : ℕ) → mark_of q t ≡ i + 1 → FirstAt k leads s t q i
+  first_from_found : (t i : ℕ) → FoundAt q t i → FirstAt k leads s t q i
   first_from_found t i at =
-      let here = h.placed t i at in
       record {
-        inside = here.0;
-        first = first_from_rank (record { over = h.over i here.0; arrives = h.runs i here.0 ∙ here.1 }) (λ v to. least_from t i at 0 0 v h.some (omega arith) to.over (ap (λ u. run leads u v) origin_is ∙ to.arrives));
+        inside = at.inside;
+        first = first_from_rank (record { over = h.over i at.inside; arrives = h.runs i at.inside ∙ at.state }) (λ v to. least_from t i at 0 0 v h.some (omega arith) to.over (ap (λ u. run leads u v) origin_is ∙ to.arrives));
       }
 
   -- where all that are found are expanded, and the target is not among them, no word leads there
-  none_from_closed : (t : ℕ) → q.tail ≤ p → mark_of q t ≡ 0 → NoWord k leads s t
-  none_from_closed t all new w to = found_from all 0 w h.some to.over (ap (mark_of q) (ap (λ u. run leads u w) origin_is ∙ to.arrives) ∙ new)
+  none_from_closed : (t : ℕ) → q.tail ≤ p → IsNew q t → NoWord k leads s t
+  none_from_closed t all new w to = found_from all 0 w h.some to.over (subst (IsNew q) (sym (ap (λ u. run leads u w) origin_is ∙ to.arrives)) new)
 
   -- the search ends as soon as the target has a place, or with all places expanded
-  pub search_end : (t : ℕ) (o : Option ℕ) → PlaceOf q t o → (mark_of q t ≡ 0 → q.tail ≤ p) → MatchOption o (NoWord k leads s t) (FirstAt k leads s t q)
+  pub search_end : (t : ℕ) (o : Option ℕ) → PlaceOf q t o → (IsNew q t → q.tail ≤ p) → MatchOption o (NoWord k leads s t) (FirstAt k leads s t q)
   search_end t None new all = none_from_closed t (all new) new
   search_end t (Some i) at all = first_from_found t i at

@@ -1,4 +1,5 @@
 -- The argument, in its order.
+pub mod Room
 pub mod Ranks
 pub mod Spelling
 pub mod Pushes

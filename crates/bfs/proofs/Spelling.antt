@@ -83,10 +83,13 @@ module _ {q q' : Queue} {v p c : ℕ} (pushed : Pushed q v p c q') where
   pub word_kept : (j : ℕ) → j < q.tail → word_of q' j ≡ word_of q j
   word_kept j l = kept_within j j (omega arith) l
 
+  pub pushed_inside : q.tail < length q.states.now
+  pushed_inside = omega (arith, q'.within, pushed.tail, long_after q.states.now q.tail v pushed.states)
+
   -- the word of the new place is one symbol longer than that of its parent
-  pub word_last : q.tail < length q.states.now → 0 < q.tail → p < q.tail → word_of q' q.tail ≡ word_of q p ++ c ∷ []
-  word_last room some here =
+  pub word_last : 0 < q.tail → p < q.tail → word_of q' q.tail ≡ word_of q p ++ c ∷ []
+  word_last some here =
       word_longer q' q.tail (omega (arith, pushed.tail)) some
       ∙ ap₂ (λ w d. w ++ d ∷ [])
-      (ap (word_of q') (at-written q.parents.now q.tail p pushed.parents (omega (arith, q.parents_long))) ∙ word_kept p here)
-      (at-written q.symbols.now q.tail c pushed.symbols (omega (arith, q.symbols_long)))
+      (ap (word_of q') (at-written q.parents.now q.tail p pushed.parents (omega (arith, pushed_inside, q.parents_long))) ∙ word_kept p here)
+      (at-written q.symbols.now q.tail c pushed.symbols (omega (arith, pushed_inside, q.symbols_long)))

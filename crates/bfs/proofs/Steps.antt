@@ -1,46 +1,19 @@
 -- The steps of the search: it begins with its start, and expands one place after another.
-use Rattle.std.proofs.Common.{◌≡◌, ℕ, zero, suc, ◌+◌, ◌<◌, true, false, ltb, length, get_or, replicate, is_some, Some, None, count_by, Option, sym, refl, ap, ◌∙◌, subst, ⊎_elim, mul-le-mul_right, suc-mul, arith, below_more, MatchOption}
-use Rattle.std.proofs.lemmas.Bool.{cases_eq, true≢false, false≢true}
+use Rattle.std.proofs.Common.{◌≡◌, ℕ, suc, ◌+◌, ◌<◌, true, false, is_some, Some, None, Option, sym, ap, ◌∙◌, subst, mul-le-mul_right, suc-mul, arith, below_more}
+use Rattle.std.proofs.lemmas.Bool.{true≢false, false≢true}
 use Rattle.bfs.specs.declared.queue.Queue.{Queue}
 use Rattle.bfs.specs.Words.{run, Over}
-use Rattle.bfs.specs.Search.{state_at, mark_of, word_of, rank_of, Empty, Pushed, Met, Searched}
-use Rattle.bfs.proofs.Spelling.{long_after, at-written, at_other}
-use Rattle.bfs.proofs.Pushes.{count_more, searched_push}
-
-zero_at : (n u : ℕ) → ◌≡◌ {A = ℕ} (get_or (replicate n 0) u 0) 0
-zero_at zero u = refl
-zero_at (suc n) zero = refl
-zero_at (suc n) (suc u) = zero_at n u
-
-count_zeros : (n : ℕ) → count_by (ltb 0) (replicate n 0) ≡ 0
-count_zeros zero = refl
-count_zeros (suc n) = count_zeros n
+use Rattle.bfs.specs.Search.{state_at, word_of, FoundAt, IsNew, PlaceOf, rank_of, Empty, Pushed, Met, Searched}
+use Rattle.bfs.proofs.Spelling.{long_after, at-written, at_other, pushed_inside}
+use Rattle.bfs.proofs.Pushes.{searched_push}
 
 -- a search begins with its start, by the word of no symbols
-module _ {n s : ℕ} {q q' : Queue} (empty : Empty n q) (below : s < n) (pushed : Pushed q s 0 0 q') where
-  known : s < length q.places.now
-  known = omega (arith, empty.room, q.places_long)
-
+module _ {n s : ℕ} {q q' : Queue} (empty : Empty n q) (pushed : Pushed q s 0 0 q') where
   only : (j : ℕ) → j < q'.tail → j ≡ 0
   only j l = omega (arith, pushed.tail, empty.none)
 
   start-at : (j : ℕ) → j < q'.tail → state_at q' j ≡ s
-  start-at j l = ap (state_at q') {y = q.tail} (omega (arith, pushed.tail)) ∙ at-written q.states.now q.tail s pushed.states (omega (arith, empty.none, empty.room))
-
-  start_place : mark_of q' s ≡ q.tail + 1
-  start_place = at-written q.places.now s (q.tail + 1) pushed.places known
-
-  none_placed : (u : ℕ) → mark_of q u ≡ 0
-  none_placed u = ap (λ l. get_or l u 0) empty.clear ∙ zero_at n u
-
-  start_placed : (u i : ℕ) → mark_of q' u ≡ i + 1 → (i < q'.tail) × (state_at q' i ≡ u)
-  start_placed u i at =
-      ⊎_elim
-      (λ e.
-      let first : i < q'.tail = omega (arith, start_place, pushed.tail, ap (mark_of q') e) in
-      (first, start-at i first ∙ sym e))
-      (λ other. absurd (omega (arith, at_other q.places.now s (q.tail + 1) pushed.places u other, none_placed u)))
-      (cases_eq u s)
+  start-at j l = ap (state_at q') {y = q.tail} (omega (arith, pushed.tail)) ∙ at-written q.states.now q.tail s pushed.states (pushed_inside pushed)
 
   pub searched_start : {k : ℕ} {leads : ℕ → ℕ → ℕ} → Searched n k leads s q' 0 0
   searched_start {k} {leads} =
@@ -49,13 +22,9 @@ module _ {n s : ℕ} {q q' : Queue} (empty : Empty n q) (below : s < n) (pushed 
             record {
               room = long_after q.states.now q.tail s pushed.states ∙ empty.room;
               some = omega (arith, pushed.tail);
-              inside = λ j l. omega (arith, start-at j l);
               over = λ j l. subst (λ j. Over k (word_of q' j)) (sym (only j l)) tt;
               runs = λ j l. ap (λ j. run leads s (word_of q' j)) (only j l) ∙ sym (start-at j l);
               rises = λ i j less l. absurd (omega (arith, only j l));
-              marked = λ j l. ap (mark_of q') (start-at j l) ∙ start_place ∙ omega (arith, pushed.tail);
-              placed = start_placed;
-              counted = count_more q.places.now q'.places.now s q.tail pushed.places known (none_placed s) ∙ omega (arith, ap (count_by (ltb 0)) empty.clear, count_zeros n, pushed.tail, empty.none);
             };
         expanded = λ i d l m. absurd (omega arith);
         begun = λ d l. absurd (omega arith);
@@ -63,13 +32,14 @@ module _ {n s : ℕ} {q q' : Queue} (empty : Empty n q) (below : s < n) (pushed 
       }
 
 -- a look-up that finds no place, and one that finds some
-pub at_none : {x : ℕ} (o : Option ℕ) → MatchOption o (x ≡ 0) (λ i. x ≡ i + 1) → is_some o ≡ false → x ≡ 0
-at_none None none e = none
-at_none (Some i) some e = absurd (true≢false e)
+module _ {q : Queue} {u : ℕ} where
+  pub at_none : (o : Option ℕ) → PlaceOf q u o → is_some o ≡ false → IsNew q u
+  at_none None none e = none
+  at_none (Some i) some e = absurd (true≢false e)
 
-pub at_some : {x : ℕ} (o : Option ℕ) → MatchOption o (x ≡ 0) (λ i. x ≡ i + 1) → is_some o ≡ true → (i : ℕ) × (x ≡ i + 1)
-at_some None none e = absurd (false≢true e)
-at_some (Some i) some e = (i, some)
+  pub at_some : (o : Option ℕ) → PlaceOf q u o → is_some o ≡ true → (i : ℕ) × FoundAt q u i
+  at_some None none e = absurd (false≢true e)
+  at_some (Some i) some e = (i, some)
 
 -- the place p, which holds the state v, is being expanded, and the symbols below c were followed
 pub record Expanding (n k : ℕ) (leads : ℕ → ℕ → ℕ) (s : ℕ) (q : Queue) (p v c : ℕ) : Type 0 where
@@ -82,23 +52,23 @@ module _ {n k : ℕ} {leads : ℕ → ℕ → ℕ} {s : ℕ} {q : Queue} {p v c 
   r = e.searched
 
   -- a state that is new is pushed
-  pub expanding_push : {u : ℕ} {q' : Queue} → c < k → u ≡ leads v c → u < n → mark_of q u ≡ 0 → Pushed q u p c q' → Expanding n k leads s q' p v (c + 1)
-  expanding_push {u} known is below new pushed =
+  pub expanding_push : {u : ℕ} {q' : Queue} → c < k → u ≡ leads v c → Pushed q u p c q' → Expanding n k leads s q' p v (c + 1)
+  expanding_push {u} known is pushed =
       record {
-        searched = searched_push r e.here known (is ∙ ap (λ x. leads x c) (sym e.state)) below new pushed;
+        searched = searched_push r e.here known (is ∙ ap (λ x. leads x c) (sym e.state)) pushed;
         here = omega (arith, e.here, pushed.tail);
         state = at_other q.states.now q.tail u pushed.states p (λ same. omega (arith, e.here)) ∙ e.state;
       }
 
   -- one that is found is passed over: no word in the queue is later than the word by this symbol
-  pub expanding_skip : {u : ℕ} → u ≡ leads v c → (i : ℕ) × (mark_of q u ≡ i + 1) → Expanding n k leads s q p v (c + 1)
-  expanding_skip {u} is (i, at) =
+  pub expanding_skip : {u : ℕ} → u ≡ leads v c → (i : ℕ) × FoundAt q u i → Expanding n k leads s q p v (c + 1)
+  expanding_skip {u} is (i, found) =
       record {
         searched =
             record {
               holds = r.holds;
               expanded = r.expanded;
-              begun = below_more (Met k leads q p) c r.begun (i, ap (mark_of q) (ap (λ x. leads x c) e.state ∙ sym is) ∙ at, omega (arith, r.next i (r.holds.placed u i at).0 e.here));
+              begun = below_more (Met k leads q p) c r.begun (i, rw (e.state, ← is) found, omega (arith, r.next i found.inside e.here));
               next = λ j l m. omega (arith, r.next j l m);
             };
         here = e.here;

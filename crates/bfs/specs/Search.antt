@@ -1,5 +1,5 @@
 -- The queue of a breadth-first search, in lent words: what it holds on the way.
-use Rattle.std.specs.Prelude.{◌≡◌, ℕ, ◌+◌, ◌*◌, ◌<◌, ◌≤◌, List, [], ◌∷◌, length, map, reverse, replicate, count_by, Option, MatchOption, nat_lt, slice_index, slice_set}
+use Rattle.std.specs.Prelude.{◌≡◌, ℕ, ◌+◌, ◌*◌, ◌<◌, ◌≤◌, List, [], ◌∷◌, length, map, reverse, Option, MatchOption, slice_index, slice_set}
 use Rattle.bfs.specs.declared.queue.Queue.{Queue}
 use Rattle.bfs.specs.Parents.{ancestors}
 use Rattle.bfs.specs.Words.{run, Over, FirstWord}
@@ -14,27 +14,30 @@ parent_at q p = slice_index q.parents.now p
 abbrev pub symbol_at : Queue → ℕ → ℕ
 symbol_at q p = slice_index q.symbols.now p
 
--- one more than the place of a state, or 0 while it has none
-abbrev pub mark_of : Queue → ℕ → ℕ
-mark_of q v = slice_index q.places.now v
+-- the state v is found, at the place p
+pub record FoundAt (q : Queue) (v p : ℕ) : Type 0 where
+  pub inside : p < q.tail
+  pub state : state_at q p ≡ v
 
--- the queue has room for n states, and none has a place yet
+-- the state v is not found
+abbrev pub IsNew : Queue → ℕ → Type 0
+IsNew q v = (j : ℕ) → FoundAt q v j → ⊥
+
+-- the queue has room for n states, and none is found yet
 pub record Empty (n : ℕ) (q : Queue) : Type 0 where
   pub room : length q.states.now ≡ n
   pub none : q.tail ≡ 0
-  pub clear : q.places.now ≡ replicate n 0
 
 -- q' is q with the state v at its end, which the symbol c led to from the place p
 pub record Pushed (q : Queue) (v p c : ℕ) (q' : Queue) : Type 0 where
   pub states : q'.states.now ≡ slice_set q.states.now q.tail v
   pub parents : q'.parents.now ≡ slice_set q.parents.now q.tail p
   pub symbols : q'.symbols.now ≡ slice_set q.symbols.now q.tail c
-  pub places : q'.places.now ≡ slice_set q.places.now v (q.tail + 1)
   pub tail : q'.tail ≡ q.tail + 1
 
--- the place of the state v, if it has one
+-- the place of the state v, if it is found
 abbrev pub PlaceOf : Queue → ℕ → Option ℕ → Type 0
-PlaceOf q v o = MatchOption o (mark_of q v ≡ 0) (λ p. mark_of q v ≡ p + 1)
+PlaceOf q v o = MatchOption o (IsNew q v) (FoundAt q v)
 
 -- the state that the search began with
 abbrev pub origin : Queue → ℕ
@@ -59,21 +62,17 @@ rank k x (c ∷ w) = rank k (x * k + c + 1) w
 abbrev pub rank_of : ℕ → Queue → ℕ → ℕ
 rank_of k q p = rank k 0 (word_of q p)
 
--- a search from s has found states, each once, by words in their order, and as many states have a place
+-- a search from s has found states by words in their order
 pub record Holds (n k : ℕ) (leads : ℕ → ℕ → ℕ) (s : ℕ) (q : Queue) : Type 0 where
   pub room : length q.states.now ≡ n
   pub some : 0 < q.tail
-  pub inside : (j : ℕ) → j < q.tail → state_at q j < n
   pub over : (j : ℕ) → j < q.tail → Over k (word_of q j)
   pub runs : (j : ℕ) → j < q.tail → run leads s (word_of q j) ≡ state_at q j
   pub rises : (i j : ℕ) → i < j → j < q.tail → rank_of k q i < rank_of k q j
-  pub marked : (j : ℕ) → j < q.tail → mark_of q (state_at q j) ≡ j + 1
-  pub placed : (v p : ℕ) → mark_of q v ≡ p + 1 → (p < q.tail) × (state_at q p ≡ v)
-  pub counted : count_by (nat_lt 0) q.places.now ≡ q.tail
 
 -- the state that the symbol d leads to from the place i is found, by a word no later than the one by that place
 abbrev pub Met : ℕ → (ℕ → ℕ → ℕ) → Queue → ℕ → ℕ → Type 0
-Met k leads q i d = (p : ℕ) × (mark_of q (leads (state_at q i) d) ≡ p + 1) × (rank_of k q p ≤ rank_of k q i * k + d + 1)
+Met k leads q i d = (p : ℕ) × FoundAt q (leads (state_at q i) d) p × (rank_of k q p ≤ rank_of k q i * k + d + 1)
 
 -- how far a search from s is: the places before p are expanded, and p by the symbols below c; no word that is found comes after
 -- the next one, by the symbol c from the place p

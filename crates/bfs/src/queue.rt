@@ -13,7 +13,8 @@ pub struct Queue<'a> {
     parents: &'a mut [u32],
     // The symbol that led from there. The first state has no parent and no symbol.
     symbols: &'a mut [u32],
-    // By state: one more than its place, or 0 while it is not found. Only these are cleared when a search begins.
+    // By state: its place, once it is found. Until then any number, since nothing is cleared when a search begins: so a number
+    // counts only if it is a place of the queue, and the state stands there.
     places: &'a mut [u32],
     // How many states are found.
     pub tail: u32,
@@ -22,6 +23,8 @@ pub struct Queue<'a> {
     ghost symbols_long: { length symbols.now ≡ length states.now },
     ghost places_long: { length places.now ≡ length states.now },
     ghost within: { tail ≤ length states.now },
+    ghost inside: { (j : ℕ) → j < tail → slice_index states.now j < length states.now },
+    ghost placed: { (j : ℕ) → j < tail → slice_index places.now (slice_index states.now j) ≡ j },
     ghost before: { (j : ℕ) → j < tail → 0 < j → slice_index parents.now j < j },
 }
 
@@ -37,7 +40,6 @@ impl<'a> Queue<'a> {
         let (states, rest) = words.split_at_mut(n);
         let (parents, rest) = rest.split_at_mut(n);
         let (symbols, places) = rest.split_at_mut(n);
-        places.fill(0);
         Queue {
             states,
             parents,
@@ -50,29 +52,34 @@ impl<'a> Queue<'a> {
 
 impl Queue<'_> {
     ghost use Rattle.bfs.specs.Answer.{Copied};
-    ghost use Rattle.bfs.specs.Search.{Pushed, PlaceOf, word_of};
+    ghost use Rattle.bfs.specs.Search.{Pushed, IsNew, PlaceOf, word_of};
 
-    // Puts a state at the end, to which a symbol led from the place of its parent.
+    // Puts a new state at the end, to which a symbol led from the place of its parent.
     pub fn push(&mut self, state: u32, parent: u32, symbol: u32)
-        requires room { self.old.tail < length self.old.states.now }
         requires state { state < length self.old.states.now }
+        requires new { IsNew self.old state }
         requires parent { 0 < self.old.tail → parent < self.old.tail }
         ensures { Pushed self.old state parent symbol self.new }
     {
         let last = self.tail as usize;
+        // Each place before has a state of its own, so there is room for a new one.
+        prove!(last < self.states.len());
         self.states[last] = state;
         self.parents[last] = parent;
         self.symbols[last] = symbol;
-        self.tail += 1;
         self.places[state as usize] = self.tail;
+        self.tail += 1;
     }
 
-    // The place of a state, if it is found.
+    // The place of a state, if it is found. A number that is no place of the queue is taken for the last one, so that one test
+    // tells: a state stands at its own place only.
     pub fn place(&self, state: u32) -> Option<u32>
-        requires { state < length self.now.states.now }
+        requires state { state < length self.now.states.now }
+        requires some { 0 < self.now.tail }
         ensures { PlaceOf self.now state result }
     {
-        self.places[state as usize].checked_sub(1)
+        let place = self.places[state as usize].min(self.tail - 1);
+        (self.states[place as usize] == state).then_some(place)
     }
 
     // Copies the word that led to a place from the first one, if the lent cells are enough. That the place is one of the queue is a

@@ -90,3 +90,28 @@ fn words_outside_are_kept(rt: HostRuntime) {
     assert_eq!(rt; before, [9; 5].as_slice());
     assert_eq!(rt; behind, [9; 3].as_slice());
 }
+
+#[test]
+fn words_may_hold_anything(rt: HostRuntime) {
+    let mut out = [7; 3];
+    // As if each state had been found, at the place of its own number.
+    let mut work = [0; 40];
+    for (i, word) in work.iter_mut().enumerate() {
+        *word = (i as u32 + 3) % 8;
+    }
+    assert_eq!(rt;
+        shortest_word(&THREES, 0, 4, &mut out, &mut work, 5),
+        Ok(Some(2))
+    );
+    assert_eq!(rt; out, [0, 1, 7]);
+    let evens = Ring { short: 2, long: 6 };
+    assert_eq!(rt;
+        shortest_word(&evens, 0, 3, &mut out, &mut work, 5),
+        Ok(None)
+    );
+    assert_eq!(rt;
+        shortest_word(&THREES, 1, 6, &mut out, &mut work, 5),
+        Ok(Some(3))
+    );
+    assert_eq!(rt; out, [0, 0, 1]);
+}

@@ -1,19 +1,16 @@
 use Rattle.std.proofs.Common.{◌∙◌, le_antisymm, arith}
-use Rattle.bfs.proofs.Pushes.{tail_lt}
 use Rattle.bfs.proofs.Steps.{at_none, at_some, expanding_push, expanding_skip, searched_next}
 use Rattle.bfs.proofs.expand.Goals as goal
 use Rattle.bfs.proofs.expand.Goals.{then-is_none, else-is_none}
 
-pub push-requires-clause-room : goal.push-requires-clause-room
-push-requires-clause-room g c =
-    let h = c.loop-symbol.invariant.searched.holds in
-    omega (arith, tail_lt h c.follow-next.ensures.below (at_none c.place.result c.place.ensures c.if-is_none.ensures), h.room)
+pub push-requires-clause-new : goal.push-requires-clause-new
+push-requires-clause-new g c = at_none c.place.result c.place.ensures c.if-is_none.ensures
 
 pub loop-symbol-preserved : goal.loop-symbol-preserved
 loop-symbol-preserved g c =
     let is = c.follow-next.ensures.is in
     elim c.if-is_none.branch [
-      | then-is_none w ↦ rw w.queue-is (expanding_push c.loop-symbol.invariant (omega arith) is c.follow-next.ensures.below (at_none c.place.result c.place.ensures w.if-is_none.ensures) w.push.ensures)
+      | then-is_none w ↦ rw w.queue-is (expanding_push c.loop-symbol.invariant (omega arith) is w.push.ensures)
       | else-is_none w ↦ rw w.queue-is (expanding_skip c.loop-symbol.invariant is (at_some c.place.result c.place.ensures w.if-is_none.ensures))
     ]
 

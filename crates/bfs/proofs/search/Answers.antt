@@ -5,7 +5,7 @@ use Rattle.bfs.proofs.search.Goals as goal
 use Rattle.bfs.proofs.search.Goals.{else-loop-head-test, then-loop-head-test+then-head-queue, then-head-queue-via-then-head-queue, then-head-queue-via-else-head-queue+then-is_some}
 
 pub loop-head-init : goal.loop-head-init
-loop-head-init g c = searched_start c.requires.empty c.requires.start c.push.ensures
+loop-head-init g c = searched_start c.requires.empty c.push.ensures
 
 pub returns : goal.returns
 returns g c =
@@ -15,6 +15,7 @@ returns g c =
       | else-loop-head-test w ↦ λ new. omega (arith, w.loop-head-test.false, c.loop-head.queue.within, r.holds.room, c.states-head-end.ensures)
       | then-loop-head-test+then-head-queue w ↦ elim w.then-head-queue.branch [
         | then-head-queue-via-then-head-queue x ↦ λ new. x.if-head-queue.true
-        | then-head-queue-via-else-head-queue+then-is_some x ↦ λ new. absurd (omega (arith, new, (at_some x.place.result x.place.ensures (sym x.if-is_some.ensures)).1))
+        | then-head-queue-via-else-head-queue+then-is_some x ↦
+            let (i, found) = at_some x.place.result x.place.ensures (sym x.if-is_some.ensures) in λ new. absurd (new i found)
       ]
     ])
