@@ -16,7 +16,7 @@
 extern "C" {
 #endif
 
-/* Words of work that undone_decide wants, and cells of out that are enough for every answer but long tables. */
+/* Words of work that undone_decide wants, and cells of out that twins want. */
 #define UNDONE_WORK 524288
 #define UNDONE_ROWS 4096
 

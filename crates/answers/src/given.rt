@@ -1,5 +1,6 @@
 // Rules with tables of their own, and their decisions.
-ghost use Rattle.std.specs.Prelude.{◌≡◌, length, IfOk};
+ghost use Rattle.std.specs.Prelude.{◌≡◌, true, length, is_ok, IfOk, MatchResult};
+ghost use Rattle.rules.specs.Checks.{Unfit};
 ghost use Rattle.std.proofs.Props.{props};
 ghost use Rattle.undone.specs.Decided.{Answer, DecidedPost};
 ghost use Rattle.rules.specs.Local.{the_rule};
@@ -22,7 +23,10 @@ pub struct GivenRule {
 
 impl GivenRule {
     pub fn new(kinds: u32, wide: u32, table: Vec<u32>) -> Result<GivenRule, NoRule>
-        ensures { IfOk result (λ g. (g.kinds ≡ kinds) × (g.wide ≡ wide) × (g.table.items ≡ table.items)) }
+        ensures says { MatchResult result
+            (λ g. (g.kinds ≡ kinds) × (g.wide ≡ wide) × (g.table.items ≡ table.items))
+            (Unfit 2 16 kinds wide table.items) }
+        ensures exact { Sound (rule_of kinds wide table.items) → is_ok result ≡ true }
     {
         SoundRule::try_new(kinds, wide, table.as_slice())?;
         Ok(GivenRule { kinds, wide, table })
@@ -32,6 +36,12 @@ impl GivenRule {
         ensures { result ≡ self.now.kinds }
     {
         self.kinds
+    }
+
+    pub fn table(&self) -> &[u32]
+        ensures { result.now ≡ self.now.table.items }
+    {
+        &self.table
     }
 
     pub fn rule(&self) -> SoundRule<'_>

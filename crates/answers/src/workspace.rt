@@ -18,7 +18,7 @@ pub struct Workspace {
 
 impl Workspace {
     pub fn new(heap: Global) -> Result<Workspace, AllocError>
-        ensures { IfOk result (λ d. vec_len d.out ≡ 262144) }
+        ensures { IfOk result (λ d. (vec_len d.out ≡ 262144) × (vec_len d.work ≡ 524288)) }
     {
         let out = vec![in heap; 0; MOST_WINDOWS]?;
         let work = vec![in heap; 0; WORK]?;

@@ -1,16 +1,24 @@
 // The command `decide`: whether rules can be run backwards, and a picture of the reason.
 use crate::fault::Fault;
+use crate::files::write_file;
 use crate::lines::Line;
+use crate::options::Name;
 use crate::picture::draw;
+use crate::picture::plaque::draw_plaque;
+use crate::picture::terminal::Terminal;
 use crate::words::parse_rule;
 use answers::answer::answer_line;
+use answers::given::GivenRule;
 use answers::workspace::Workspace;
 use std::alloc::Global;
 use std::io::{BufReader, Read};
 
+// The option before the file for the picture.
+const SVG: &str = "--svg";
+
 pub const USAGE: &str = "\
-Usage: decide KINDS WIDTH TABLE
-       decide wolfram N
+Usage: decide KINDS WIDTH TABLE [--svg FILE]
+       decide wolfram N [--svg FILE]
        decide -
 
 Tells whether a rule can be run backwards, and draws the reason. KINDS kinds
@@ -31,6 +39,8 @@ standard input, a line each, and each line is answered by one line:
          again to the left of MIDDLE, and RIGHT again and again to the right
   no rule: REASON
          what is wrong with the line
+
+With --svg the picture is drawn in a file, which a browser shows.
 ";
 
 // Carries out the arguments of `decide`.
@@ -40,20 +50,42 @@ pub fn decide(rt: &HostRuntime, args: &[String]) -> Result<(), Fault> {
     }
     match args {
         [word] if word.as_str() == "-" => decide_lines(rt),
-        _ => decide_one(rt, args),
+        [words @ .., option, file] if option.as_str() == SVG => decide_one(rt, words, Some(file)),
+        [option, file, words @ ..] if option.as_str() == SVG => decide_one(rt, words, Some(file)),
+        [.., option] if option.as_str() == SVG => Err(Fault::NoValue(Name::Svg)),
+        _ => decide_one(rt, args, None),
     }
 }
 
 // Answers one rule, and draws the reason. The words of work are let go before that.
-fn decide_one(rt: &HostRuntime, words: &[String]) -> Result<(), Fault> {
+fn decide_one(rt: &HostRuntime, words: &[String], file: Option<&String>) -> Result<(), Fault> {
     let heap = rt.alloc();
-    let given = parse_rule(heap, words)?;
+    let given = rule_of_words(heap, words)?;
     let mut workspace = Workspace::new(heap)?;
     let decided = workspace.decide(&given);
     let out = workspace.into_told();
     let answer = answer_line(heap, given.kinds(), decided, out.as_slice())?;
-    println!(rt; "{answer}\n")?;
-    draw(rt, given.rule(), decided, out.as_slice())
+    match file {
+        Some(file) => {
+            let plaque = draw_plaque(heap, &given, decided, out.as_slice())?;
+            write_file(rt, file.as_str(), plaque.as_slice())?;
+            Ok(println!(rt; "{answer}")?)
+        }
+        None => {
+            println!(rt; "{answer}\n")?;
+            let mut terminal = Terminal { rt };
+            draw(heap, &mut terminal, given.rule(), decided, out.as_slice())
+        }
+    }
+}
+
+// What is wrong with the words is told as under `-`.
+fn rule_of_words(heap: Global, words: &[String]) -> Result<GivenRule, Fault> {
+    match parse_rule(heap, words) {
+        Ok(given) => Ok(given),
+        Err(fault) if fault.is_failure() => Err(fault),
+        Err(fault) => Err(Fault::NoRule(format!(in heap; "{fault}")?)),
+    }
 }
 
 // Answers the rules of standard input, in a workspace that is made once.

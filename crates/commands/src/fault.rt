@@ -1,10 +1,14 @@
 // What can be wrong with a command, in words for its user.
+ghost use Rattle.std.specs.Prelude.{Decides};
+ghost use Rattle.commands.specs.Failure.{Failure};
+
 use crate::options::Name;
 use ring::NoRing;
 use rules::row::NoRow;
 use rules::rule::NoRule;
 use std::alloc::AllocError;
 use std::{fmt, io};
+use svg::drawing::NoDrawing;
 use text::parse::NoCells;
 use text::print::NoText;
 use thiserror::Error;
@@ -20,12 +24,16 @@ pub enum Fault {
     UnknownOption(String),
     #[error("expected a value after {0}")]
     NoValue(Name),
-    #[error("expected a whole number for {0}, and found {1}")]
+    #[error("expected a whole number for {0} that is not too large, and found {1}")]
     NoNumber(Name, String),
     #[error("expected --row or --random, and found both")]
     TwoRows,
     #[error("expected --back or --place, and found both")]
     TwoPlaces,
+    #[error("expected --show or --svg, and found both")]
+    TwoPictures,
+    #[error("expected at most 16777216 cells in all rows for --svg, and found more")]
+    LargePicture,
     #[error(transparent)]
     Cells(BadCells),
     // What is neither a rule nor a way back.
@@ -34,6 +42,9 @@ pub enum Fault {
     // What is no rule to be decided.
     #[error(transparent)]
     Rule(BadRule),
+    // What is wrong with the words of a rule to be decided.
+    #[error("no rule: {0}")]
+    NoRule(String),
     #[error("expected KINDS WIDTH TABLE or wolfram N")]
     FewWords,
     #[error("expected nothing after the rule, and found {0}")]
@@ -57,6 +68,10 @@ pub enum Fault {
     Next(#[from] NoRow),
     #[error("the row cannot be printed: {0:?}")]
     Text(#[from] NoText),
+    #[error(transparent)]
+    Drawing(#[from] NoDrawing),
+    #[error("{0} cannot be written: {1}")]
+    File(String, io::Error),
     #[error("out of memory")]
     Memory(#[from(alloc)] AllocError),
     #[error("standard input or output failed")]
@@ -65,8 +80,14 @@ pub enum Fault {
 
 impl Fault {
     // Whether it is no fault of what was given, so that there is no going on.
-    pub fn is_failure(&self) -> bool {
-        matches!(self, Fault::Text(_) | Fault::Memory(_) | Fault::Stream(_))
+    pub fn is_failure(&self) -> bool
+        ensures { Decides result (Failure self.now) }
+    {
+        match self {
+            Fault::Cells(cells) => cells.reason == NoCells::Memory,
+            Fault::Text(_) | Fault::Drawing(_) | Fault::Memory(_) | Fault::Stream(_) => true,
+            _ => false,
+        }
     }
 }
 

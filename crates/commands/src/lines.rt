@@ -1,5 +1,5 @@
 // Lines of standard input, each held in at most so many bytes.
-ghost use Rattle.std.specs.Prelude.{◌≤◌, vec_len};
+ghost use Rattle.std.specs.Prelude.{◌≡◌, ◌≤◌, ◌∷◌, ◌++◌, [], ◌+◌, true, false, vec_len, Decides, OnOk, IfOk};
 
 use crate::fault::Fault;
 use crate::words::split_words;
@@ -19,23 +19,34 @@ pub struct Line {
 }
 
 impl Line {
-    pub fn new(heap: Global) -> Line {
+    pub fn new(heap: Global) -> Line
+        ensures bytes { result.bytes.items ≡ [] }
+        ensures long { result.long ≡ false }
+    {
         Line {
             bytes: Vec::new(heap),
             long: false,
         }
     }
 
-    pub fn is_empty(&self) -> bool {
+    pub fn is_empty(&self) -> bool
+        ensures { Decides result (self.now.bytes.items ≡ []) }
+    {
         self.bytes.is_empty()
     }
 
-    pub fn clear(&mut self) {
+    pub fn clear(&mut self)
+        ensures bytes { self.new.bytes.items ≡ [] }
+        ensures long { self.new.long ≡ false }
+    {
         self.bytes.clear();
         self.long = false;
     }
 
-    pub fn push(&mut self, byte: u8) -> Result<(), AllocFailed<u8>> {
+    pub fn push(&mut self, byte: u8) -> Result<(), AllocFailed<u8>>
+        ensures full { vec_len self.old.bytes ≡ 4096 → (self.new.bytes.items ≡ self.old.bytes.items) × (self.new.long ≡ true) }
+        ensures room { OnOk result (vec_len self.old.bytes + 1 ≤ 4096 → (self.new.bytes.items ≡ self.old.bytes.items ++ byte ∷ []) × (self.new.long ≡ self.old.long)) }
+    {
         if self.bytes.len() == MOST_BYTES {
             self.long = true;
             return Ok(());
@@ -44,7 +55,9 @@ impl Line {
     }
 
     // The words of the line.
-    pub fn words(&self, heap: Global) -> Result<Vec<String>, Fault> {
+    pub fn words(&self, heap: Global) -> Result<Vec<String>, Fault>
+        ensures { IfOk result (λ _. self.now.long ≡ false) }
+    {
         if self.long {
             return Err(Fault::LongLine);
         }

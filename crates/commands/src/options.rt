@@ -18,6 +18,7 @@ pub enum Name {
     Seed,
     Steps,
     Place,
+    Svg,
 }
 
 // As it is written among the arguments, which no derive knows.
@@ -32,6 +33,7 @@ impl fmt::Display for Name {
             Name::Seed => "--seed",
             Name::Steps => "--steps",
             Name::Place => "--place",
+            Name::Svg => "--svg",
         };
         write!(f, "{name}")
     }
@@ -67,6 +69,8 @@ pub struct Options {
     pub alphabet: Alphabet,
     // Only the last row is shown: yes or no, with nothing beside it.
     pub last: bool,
+    // The file that the rows are drawn in, in place of being printed.
+    pub svg: Option<String>,
 }
 
 // What the arguments have said so far, each by itself: what goes together is found out at the end.
@@ -80,6 +84,7 @@ struct Draft {
     seed: Option<u64>,
     steps: Option<u64>,
     place: Option<usize>,
+    svg: Option<String>,
     back: bool,
     alphabet: Option<Alphabet>,
     last: bool,
@@ -95,6 +100,7 @@ impl Draft {
             "--seed" => return Ok(Some(Name::Seed)),
             "--steps" => return Ok(Some(Name::Steps)),
             "--place" => return Ok(Some(Name::Place)),
+            "--svg" => return Ok(Some(Name::Svg)),
             "--back" => self.back = true,
             "--last" => self.last = true,
             "--show" => self.alphabet = Some(Alphabet::Glyphs),
@@ -130,6 +136,7 @@ impl Draft {
             Name::Seed => self.seed = Some(number(heap, name, word)?),
             Name::Steps => self.steps = Some(number(heap, name, word)?),
             Name::Place => self.place = Some(number(heap, name, word)?),
+            Name::Svg => self.svg = Some(String::from_str(heap, word)?),
         }
         Ok(())
     }
@@ -168,6 +175,7 @@ fn finish(draft: Draft) -> Result<Option<Options>, Fault> {
         seed,
         steps,
         place,
+        svg,
         back,
         alphabet,
         last,
@@ -185,6 +193,9 @@ fn finish(draft: Draft) -> Result<Option<Options>, Fault> {
         (false, Some(place)) => Mode::WayBack(place),
         (false, None) => Mode::Forwards,
     };
+    if svg.is_some() && alphabet.is_some() {
+        return Err(Fault::TwoPictures);
+    }
     Ok(Some(Options {
         kinds,
         wide,
@@ -194,6 +205,7 @@ fn finish(draft: Draft) -> Result<Option<Options>, Fault> {
         steps: steps.unwrap_or(16),
         alphabet: alphabet.unwrap_or(Alphabet::Digits),
         last,
+        svg,
     }))
 }
 

@@ -5,6 +5,7 @@ use crate::decide::decide;
 use crate::fault::Fault;
 use crate::run::run;
 use crate::words::split_words;
+use std::alloc::AllocError;
 use std::env;
 use std::process::ExitCode;
 
@@ -17,11 +18,20 @@ pub fn carry_out<F: FnOnce(&HostRuntime, &[String]) -> Result<(), Fault>>(
     requires { F.IsAlwaysCallable command }
 {
     let words = env::args(rt)?.skip(1).collect::<Vec<String>>(rt.alloc())?;
-    if let Err(fault) = command(rt, words.as_slice()) {
-        eprintln!(rt; "{name}: {fault}. Try --help.")?;
-        return Ok(ExitCode::FAILURE);
+    let Err(fault) = command(rt, words.as_slice()) else {
+        return Ok(ExitCode::SUCCESS);
+    };
+    let line = fault_line(rt, name, fault)?;
+    eprintln!(rt; "{line}")?;
+    Ok(ExitCode::FAILURE)
+}
+
+// That the words are no rule is an answer too, and stands without the command's name.
+fn fault_line(rt: &HostRuntime, name: &str, fault: Fault) -> Result<String, AllocError> {
+    match fault {
+        Fault::NoRule(_) => format!(in rt.alloc(); "{fault}"),
+        _ => format!(in rt.alloc(); "{name}: {fault}. Try --help."),
     }
-    Ok(ExitCode::SUCCESS)
 }
 
 // Carries out command lines from standard input, so that pictures and refusals are compared as well as rows. What every line
@@ -34,7 +44,8 @@ pub fn carry_out_lines(rt: &HostRuntime, begin: &str) -> Result<(), Fault> {
         let words = split_words(rt.alloc(), line.as_str())?;
         if let Err(fault) = carry_out_words(rt, words.as_slice()) {
             let name = words.first().map_or("", |word| word.as_str());
-            println!(rt; "{name}: {fault}")?;
+            let line = fault_line(rt, name, fault)?;
+            println!(rt; "{line}")?;
         }
     }
     Ok(())

@@ -6,9 +6,11 @@ ghost use Rattle.rules.specs.Rules.{rule_of};
 use crate::back::find_way_back;
 use crate::cells::{MOST_KINDS, read_cells};
 use crate::fault::{BadTable, Fault};
+use crate::files::create_file;
 use crate::options::{Mode, Name, Options, Source, parse_options};
 use crate::random::random_cells;
 use crate::ring_row::RingRow;
+use crate::rows::{Diagram, Printed, Rows};
 use crate::words::new_rule;
 use answers::answer::table_cells;
 use answers::given::GivenRule;
@@ -16,10 +18,16 @@ use ring::{NoRing, RingRule};
 use rules::local::LocalRule;
 use rules::rule::{MOST_WINDOWS, NoRule};
 use rules::sound::SoundRule;
-use std::io::Read;
+use std::io::{BufWriter, Read};
 
 // Two rows of so many cells, a line of text and the largest table fit in 4 MiB.
 const MOST_CELLS: usize = 262_144;
+
+// So many bytes of standard input are looked at: a row, with as many spaces around it.
+const MOST_BYTES: usize = 2 * MOST_CELLS;
+
+// The most cells of all rows of a drawing: 12,000 cells and 1,000 seconds are fewer.
+const MOST_SQUARES: usize = 16_777_216;
 
 pub const USAGE: &str = "\
 Usage: run KINDS WIDTH TABLE [OPTION]...
@@ -37,6 +45,7 @@ one digit a cell, 0 to 9 and a to f.
   --back         run the rule backwards, by its least way back
   --last         print only the last row
   --show         draw the cells in place of their digits
+  --svg FILE     draw the rows in a file, which a browser shows, and print none
   --help         print this text
 ";
 
@@ -98,18 +107,61 @@ fn run_back(rt: &HostRuntime, options: &Options, given: GivenRule) -> Result<(),
     run_rows(rt, RingRule { rule, place }, options)
 }
 
-// Runs a rule, or a way back, on the row that is asked for.
+// Runs a rule, or a way back, on the row that is asked for, and prints or draws the rows.
 fn run_rows(rt: &HostRuntime, rule: RingRule, options: &Options) -> Result<(), Fault> {
     let row = first_row(rt, rule.rule, &options.source)?;
-    let mut row = RingRow::new(rt.alloc(), row, options.alphabet)?;
+    let row = RingRow::new(row)?;
+    if let Some(file) = &options.svg {
+        return draw_rows(rt, file.as_str(), rule, row, options);
+    }
+    let mut printed = Printed::new(rt, row.cells().len(), options.alphabet)?;
+    add_rows(rule, row, options, &mut printed)
+}
+
+// Draws the rows in a file, which is made when their number is found to be in order.
+fn draw_rows(
+    rt: &HostRuntime,
+    file: &str,
+    rule: RingRule,
+    row: RingRow,
+    options: &Options,
+) -> Result<(), Fault> {
+    let columns = row.cells().len();
+    let steps = usize::try_from(options.steps).unwrap_or(usize::MAX);
+    let rows = if options.last {
+        1
+    } else {
+        steps.saturating_add(1)
+    };
+    if columns.saturating_mul(rows) > MOST_SQUARES {
+        return Err(Fault::LargePicture);
+    }
+    let title = format!(in rt.alloc();
+        "Rule {} {} {:.64}",
+        options.kinds, options.wide, options.table
+    )?;
+    let to = BufWriter::new(rt.alloc(), create_file(rt, file)?)?;
+    let mut diagram = Diagram::new(to, columns, rows, title.as_str())?;
+    add_rows(rule, row, options, &mut diagram)?;
+    diagram.finish()?;
+    Ok(())
+}
+
+// Runs the row, and adds each row, or the last only.
+fn add_rows<R: Rows>(
+    rule: RingRule,
+    mut row: RingRow,
+    options: &Options,
+    rows: &mut R,
+) -> Result<(), Fault> {
     if options.last {
         row.steps(rule, options.steps)?;
-        return row.print(rt);
+        return rows.add(row.cells());
     }
-    row.print(rt)?;
+    rows.add(row.cells())?;
     for _second in 0..options.steps {
         row.step(rule)?;
-        row.print(rt)?;
+        rows.add(row.cells())?;
     }
     Ok(())
 }
@@ -121,7 +173,12 @@ fn first_row(rt: &HostRuntime, rule: LocalRule, source: &Source) -> Result<Vec<u
         Source::Given(cells) => read_cells(rt.alloc(), Name::Row, kinds, cells.as_str())?,
         Source::Input => {
             let mut cells = String::new(rt.alloc());
-            rt.stdin().read_to_string(&mut cells)?;
+            rt.stdin()
+                .take(MOST_BYTES as u64)
+                .read_to_string(&mut cells)?;
+            if cells.len() == MOST_BYTES {
+                return Err(Fault::LongRow);
+            }
             read_cells(rt.alloc(), Name::Row, kinds, cells.as_str().trim())?
         }
         Source::Random { cells, seed } => random_cells(

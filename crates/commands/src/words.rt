@@ -1,4 +1,6 @@
 // Words, and a rule that is given in them: KINDS WIDTH TABLE, or wolfram N.
+ghost use Rattle.std.specs.Prelude.{◌≡◌, IfOk};
+
 use crate::cells::{MOST_KINDS, read_cells};
 use crate::fault::{BadRule, BadTable, Fault};
 use crate::options::{Name, number};
@@ -42,7 +44,9 @@ fn parse_number(heap: Global, number: &str) -> Result<GivenRule, Fault> {
 }
 
 // A rule, or what is wrong with its table.
-pub fn new_rule(kinds: u32, wide: u32, table: Vec<u32>) -> Result<GivenRule, Fault> {
+pub fn new_rule(kinds: u32, wide: u32, table: Vec<u32>) -> Result<GivenRule, Fault>
+    ensures { IfOk result (λ g. (g.kinds ≡ kinds) × (g.wide ≡ wide) × (g.table.items ≡ table.items)) }
+{
     GivenRule::new(kinds, wide, table).map_err(|reason| {
         Fault::Rule(BadRule(BadTable {
             reason,

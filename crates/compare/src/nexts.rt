@@ -1,5 +1,5 @@
 // The next rows of all pieces of one length, by the pieces' numbers.
-ghost use Rattle.std.specs.Prelude.{◌<◌};
+ghost use Rattle.std.specs.Prelude.{◌≡◌, ◌^◌, ◌<◌};
 
 use crate::compared::Rule;
 use std::alloc::{AllocError, Global};
@@ -20,7 +20,9 @@ pub struct Pieces<'a> {
 
 impl Pieces<'_> {
     // How many rows are as long as a next row.
-    pub fn rows(&self) -> usize {
+    pub fn rows(&self) -> usize
+        ensures { self.now.kinds ^ self.now.next_length < 2 ^ 32 → result ≡ self.now.kinds ^ self.now.next_length }
+    {
         self.kinds.saturating_pow(self.next_length) as usize
     }
 }

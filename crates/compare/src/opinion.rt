@@ -1,4 +1,6 @@
 // The second opinion of a rule: what is found by going through all pieces and all rows on rings, up to small lengths.
+ghost use Rattle.std.specs.Prelude.{◌≤◌, Decides};
+
 use crate::compared::Rule;
 use crate::digits::Cells;
 use crate::nexts::{Pieces, Room};
@@ -25,12 +27,16 @@ pub struct Opinion {
 
 impl Opinion {
     // Whether ways back of a width were tried.
-    pub fn tried_width(&self, width: u32) -> bool {
+    pub fn tried_width(&self, width: u32) -> bool
+        ensures { Decides result ((width ≤ self.now.reach) × (width ≤ 4)) }
+    {
         width <= self.reach.min(WIDEST_WAY)
     }
 
     // Whether pieces of a length were tried.
-    pub fn tried_piece(&self, length: usize) -> bool {
+    pub fn tried_piece(&self, length: usize) -> bool
+        ensures { Decides result (length ≤ self.now.reach) }
+    {
         length <= self.reach as usize
     }
 

@@ -1,5 +1,5 @@
 // Which tables are rules or ways back, and why others are not.
-ghost use Rattle.std.specs.Prelude.{◌≡◌, ℕ, ◌-◌, ◌^◌, ◌<◌, ◌≤◌, true, length, is_ok, MatchResult};
+ghost use Rattle.std.specs.Prelude.{◌≡◌, ℕ, ◌-◌, ◌^◌, ◌<◌, ◌≤◌, true, length, is_ok, IfOk, MatchResult};
 ghost use Rattle.rules.specs.Local.{the_rule};
 ghost use Rattle.rules.specs.Rules.{rule_of, Cells, Formed, Sound};
 ghost use Rattle.rules.specs.Checks.{BadSize, BadTable, Unfit};
@@ -45,6 +45,7 @@ impl<'a> LocalRule<'a> {
         ensures says { MatchResult result
             (λ l. (the_rule l ≡ rule_of kinds wide table.now) × Formed (rule_of kinds wide table.now))
             (Unfit 1 262144 kinds wide table.now) }
+        ensures bounded { IfOk result (λ _. kinds ^ wide ≤ 262144) }
         ensures exact { Formed (rule_of kinds wide table.now) → kinds ^ wide ≤ 262144 → is_ok result ≡ true }
     {
         let windows = check_size(kinds, wide, 1, MOST_WINDOWS)?;

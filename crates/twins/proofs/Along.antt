@@ -188,8 +188,8 @@ rows_fit r sound t m ps fs long-ps long-fs =
     omega (arith, length-take t (drop 1 ps), length-drop 1 ps, length-take m fs, pairs_le r sound, wide_le r sound)
 
 -- what is written along the paths
-pub written_along : (r : Rule) → Sound r → (q : ℕ) → q ≡ r.wide - 1 → (ps fs : List ℕ) → Path r Past (get_or ps 0 0) ps → Path r Future (get_or ps 0 0) fs → Unlike r (get_or ps 0 0) → (p p' : Repeat) → Repeated ps p → Repeated (take (length fs - q) (drop q fs)) p' → (o o' : List ℕ) → Puts o o' (map (first_cell r) (pairs_along ps (take (q + p'.end) fs) ((p.end + 1) - 1)) ++ map (second_cell r) (pairs_along ps (take (q + p'.end) fs) ((p.end + 1) - 1))) → TwinsWritten r o o' (record { left = p.end - p.start; mid = (p.start + q) + p'.start; right = p'.end - p'.start })
-written_along r sound q is ps fs past future unlike p p' left right o o' puts =
+pub written_along : (r : Rule) → Sound r → (q : ℕ) → q ≡ r.wide - 1 → (ps fs : List ℕ) → length ps ≡ pairs_of r + r.wide → length fs ≡ pairs_of r + r.wide → Path r Past (get_or ps 0 0) ps → Path r Future (get_or ps 0 0) fs → Unlike r (get_or ps 0 0) → (p p' : Repeat) → Repeated ps p → Repeated (take (length fs - q) (drop q fs)) p' → (o o' : List ℕ) → Puts o o' (map (first_cell r) (pairs_along ps (take (q + p'.end) fs) ((p.end + 1) - 1)) ++ map (second_cell r) (pairs_along ps (take (q + p'.end) fs) ((p.end + 1) - 1))) → TwinsWritten r o o' (record { left = p.end - p.start; mid = (p.start + q) + p'.start; right = p'.end - p'.start })
+written_along r sound q is ps fs long-ps long-fs past future unlike p p' left right o o' puts =
     let (lm, m-in, same) = repeated_behind q fs p' right in
     let (a, b, same_next, long-left, long-mid, long-right, cells-a, cells-b) = twins_along r sound (get_or ps 0 0) ps fs past future p.end left.inside (q + p'.end) p.start (q + p'.start) m-in left.before (omega arith) left.same same (omega arith) unlike in
     record {
@@ -199,5 +199,6 @@ written_along r sound q is ps fs past future unlike p p' left right o o' puts =
       left = sym long-left;
       mid = omega (arith, long-mid);
       right = omega (arith, long-right);
+      few = omega (arith, left.before, left.inside, lm, m-in, long-ps, long-fs, pairs_le r sound, wide_le r sound);
       puts = subst (Puts o o') (ap (λ t. map (first_cell r) (pairs_along ps (take (q + p'.end) fs) t) ++ map (second_cell r) (pairs_along ps (take (q + p'.end) fs) t)) {y = p.end} (omega arith) ∙ ap₂ ◌++◌ (sym cells-a) (sym cells-b) ∙ simp append_assoc) puts;
     }

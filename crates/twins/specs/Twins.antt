@@ -1,5 +1,5 @@
 -- Paths in the pair graph, and the twins that are written along them.
-use Rattle.std.specs.Prelude.{◌≡◌, ℕ, ◌+◌, ◌*◌, ◌/◌, ◌%◌, ◌<◌, List, ◌++◌, length, slice_index, slice_index_or}
+use Rattle.std.specs.Prelude.{◌≡◌, ℕ, ◌+◌, ◌*◌, ◌/◌, ◌%◌, ◌<◌, ◌≤◌, List, ◌++◌, length, slice_index, slice_index_or}
 use Rattle.pairs.specs.declared.graph.Direction.{Direction}
 use Rattle.twins.specs.declared.Lengths.{Lengths}
 use Rattle.twins.specs.declared.Repeat.{Repeat}
@@ -52,4 +52,5 @@ pub record TwinsWritten (r : Rule) (o o' : List ℕ) (n : Lengths) : Type 0 wher
   pub left : n.left ≡ length a.left
   pub mid : n.mid ≡ length a.mid
   pub right : n.right ≡ length a.right
+  pub few : 2 * (n.left + (n.mid + n.right)) ≤ 4096
   pub puts : Puts o o' (a.left ++ (a.mid ++ (a.right ++ (b.left ++ (b.mid ++ b.right)))))

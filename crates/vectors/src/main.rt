@@ -58,7 +58,8 @@ fn answer_rule(
     }
 }
 
-// Whether two rows differ and have one next row, with none, one and two copies of their parts on both sides.
+// Whether two rows differ and have one next row, with no copy of their parts on both sides up to as many as
+// a window has cells, so that every window of the endless rows is seen.
 fn check_twins(
     heap: Global,
     rule: LocalRule,
@@ -71,7 +72,7 @@ fn check_twins(
     if first.mid == second.mid {
         return Ok("twins, but with the same middle");
     }
-    for copies in 0..3 {
+    for copies in 0..=rule.wide() as usize {
         if next_of(heap, rule, first, copies)? != next_of(heap, rule, second, copies)? {
             return Ok("twins, but with different next rows");
         }

@@ -1,10 +1,10 @@
 // Two endless rows around their middles, the cells that differ, and the one next row of both.
+use super::canvas::Canvas;
 use crate::fault::Fault;
 use answers::endless::EndlessRow;
 use rules::local::LocalRule;
 use rules::row::next_row;
 use std::alloc::{AllocError, Global};
-use text::print::{Alphabet, write_cells};
 
 // A label, so many cells and the dots on both sides make a line of 79 columns at most.
 const COLUMNS: usize = 64;
@@ -61,57 +61,51 @@ impl View {
             .collect(heap)
     }
 
-    // A line under the cells of the middle.
-    fn underline(self, heap: Global) -> Result<String, AllocError> {
+    // Which columns are of the middle.
+    fn middle(self, heap: Global) -> Result<Vec<bool>, AllocError> {
         (0..COLUMNS)
             .map(|column| {
                 let place = self.start.saturating_add(column);
-                let inside = self.mid <= place && place - self.mid < self.mid_cells;
-                if inside { '-' } else { ' ' }
+                self.mid <= place && place - self.mid < self.mid_cells
             })
             .collect(heap)
     }
 }
 
-pub fn draw_two_rows(
-    rt: &HostRuntime,
+pub fn draw_two_rows<C: Canvas>(
+    heap: Global,
+    canvas: &mut C,
     rule: LocalRule,
     first: EndlessRow,
     second: EndlessRow,
 ) -> Result<(), Fault> {
-    let heap = rt.alloc();
     let behind = rule.wide() as usize - 1;
     let view = View::new(first, second);
     let one = view.cells(heap, first, behind)?;
     let other = view.cells(heap, second, behind)?;
     let mut next = vec![in heap; 0; COLUMNS]?;
     next_row(rule, one.as_slice(), next.as_mut_slice())?;
-    let line = view.underline(heap)?;
-    let marks = difference_marks(heap, one.as_slice(), other.as_slice())?;
-    println!(rt; "middle      {line}")?;
-    draw_row(rt, "one row", one.as_slice())?;
-    println!(rt; "differ      {marks}")?;
-    draw_row(rt, "other row", other.as_slice())?;
-    draw_row(rt, "next row", next.as_slice())?;
-    draw_note(rt, view.hidden())
+    let middle = view.middle(heap)?;
+    let differ = differences(heap, one.as_slice(), other.as_slice())?;
+    canvas.marks("middle", '-', middle.as_slice())?;
+    canvas.endless("one row", shown(one.as_slice()))?;
+    canvas.marks("differ", '^', differ.as_slice())?;
+    canvas.endless("other row", shown(other.as_slice()))?;
+    canvas.endless("next row", next.as_slice())?;
+    draw_note(heap, canvas, view.hidden())
 }
 
-fn draw_row(rt: &HostRuntime, label: &str, cells: &[u32]) -> Result<(), Fault> {
-    let mut line = String::new(rt.alloc());
-    write_cells(
-        &mut line,
-        Alphabet::Digits,
-        &cells[0..cells.len().min(COLUMNS)],
-    )?;
-    Ok(println!(rt; "{label:<10}..{line}..")?)
+// The cells before those that only the next row looks at.
+fn shown(cells: &[u32]) -> &[u32] {
+    &cells[0..cells.len().min(COLUMNS)]
 }
 
-// A mark at each cell that differs.
-fn difference_marks(heap: Global, one: &[u32], other: &[u32]) -> Result<String, AllocError> {
+// Which of the columns differ.
+fn differences(heap: Global, one: &[u32], other: &[u32]) -> Result<Vec<bool>, AllocError> {
     one.iter()
         .zip(other)
         .take(COLUMNS)
-        .map(|(a, b)| if a == b { ' ' } else { '^' })
+        .map(|(a, b)| a != b)
         .collect(heap)
 }
 
@@ -121,9 +115,10 @@ fn first_difference(one: &[u32], other: &[u32]) -> usize {
     differs.unwrap_or(0)
 }
 
-fn draw_note(rt: &HostRuntime, hidden: usize) -> Result<(), Fault> {
+fn draw_note<C: Canvas>(heap: Global, canvas: &mut C, hidden: usize) -> Result<(), Fault> {
     if hidden == 0 {
         return Ok(());
     }
-    Ok(println!(rt; "... and {hidden} more cells of the middle")?)
+    let note = format!(in heap; "... and {hidden} more cells of the middle")?;
+    canvas.words(note.as_str())
 }

@@ -6,4 +6,4 @@ pub invariant_of-result : goal.invariant_of-result
 invariant_of-result c = omega (arith, c.in_ok-work.ensures.len)
 
 pub returns : goal.returns
-returns c = omega (arith, c.in_ok-out.ensures.len)
+returns c = omega (arith, c.in_ok-out.ensures.len, c.in_ok-work.ensures.len)

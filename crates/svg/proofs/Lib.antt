@@ -1,0 +1,2 @@
+-- That the runs are those of the row.
+pub mod Painting

@@ -1,0 +1,2 @@
+-- Where the rectangles of a drawing stand: the definitions that the contracts cite.
+pub mod Runs
