@@ -1,4 +1,4 @@
-/* Whether a rule on rows of cells can be run backwards, and rows in a ring.
+/* Whether a rule on rows of cells can be run backwards, rows that it makes one, and rows in a ring.
  *
  * Link with libcapi.a, which `rt lib` in crates/capi proves and writes to crates/capi/out. Every value is looked at and
  * refused where it does not fit; a pointer has to be good for as many elements as the number behind it says, and what is
@@ -44,6 +44,34 @@ struct undone_decision {
 
 struct undone_decision undone_decide(uint32_t kinds, uint32_t width, const uint32_t *table, size_t table_cells,
                                      uint32_t *out, size_t out_cells, uint32_t *work, size_t work_words);
+
+/* Words of work that undone_finite wants, and cells of out that always suffice for it. */
+#define UNDONE_FINITE_WORK 4096
+#define UNDONE_FINITE_ROWS 1024
+
+enum undone_finite_answer {
+    UNDONE_FINITE_NO_RULE = 0,
+    UNDONE_FINITE_TWINS = 1, /* out begins with the two rows: left, middle and right of the one, then of the other */
+    UNDONE_FINITE_NONE = 2,  /* there are no such rows; nothing is written */
+    UNDONE_FINITE_FULL = 3,  /* there are, and they want `wanted` cells of out, which has fewer; nothing is written */
+    UNDONE_FINITE_FEW = 4    /* fewer words of work than UNDONE_FINITE_WORK */
+};
+
+/* What does not belong to the answer is 0. */
+struct undone_twins {
+    uint32_t answer;
+    size_t left;
+    size_t middle;
+    size_t right;
+    size_t wanted;
+};
+
+/* Finds two endless rows that differ at finitely many places and have one next row, or tells that there are none: there
+ * are exactly if the rule has an orphan. Each row has its left again and again to the left of its middle, and its right again
+ * and again to the right. Both have the same left and the same right, and no such rows have shorter middles, whatever stands
+ * on their sides. */
+struct undone_twins undone_finite(uint32_t kinds, uint32_t width, const uint32_t *table, size_t table_cells,
+                                  uint32_t *out, size_t out_cells, uint32_t *work, size_t work_words);
 
 enum undone_steps_answer {
     UNDONE_IN_ROW = 0,   /* the last row stands in row */

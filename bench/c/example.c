@@ -1,4 +1,5 @@
-/* Decides a rule, runs a row forwards, and runs it back by the way back that was told. */
+/* Decides a rule, runs a row forwards, and runs it back by the way back that was told. Of another rule, finds two rows that
+ * differ at finitely many places and have one next row. */
 #include "undone.h"
 #include <stdio.h>
 #include <string.h>
@@ -12,6 +13,20 @@ static void print_cells(const char *name, const uint32_t *cells, size_t n) {
         printf("%x", cells[i]);
     }
     printf("\n");
+}
+
+/* Of two kinds, the smaller of two neighbours. */
+static int show_twins(void) {
+    const uint32_t table[4] = {0, 0, 0, 1};
+    struct undone_twins told = undone_finite(2, 2, table, 4, out, UNDONE_FINITE_ROWS, work, UNDONE_FINITE_WORK);
+    if (told.answer != UNDONE_FINITE_TWINS) {
+        fprintf(stderr, "expected two rows, and found answer %u\n", told.answer);
+        return 1;
+    }
+    size_t cells = told.left + told.middle + told.right;
+    print_cells("one  ", out, cells);
+    print_cells("other", out + cells, cells);
+    return 0;
 }
 
 int main(void) {
@@ -40,5 +55,5 @@ int main(void) {
         return 1;
     }
     print_cells("again", row, 12);
-    return memcmp(row, start, sizeof row) == 0 ? 0 : 1;
+    return memcmp(row, start, sizeof row) == 0 ? show_twins() : 1;
 }

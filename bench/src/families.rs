@@ -8,6 +8,23 @@ pub struct Rule {
     pub table: Vec<u32>,
 }
 
+impl Rule {
+    /// The next row of a piece.
+    pub fn next_row(&self, row: &[u32]) -> Vec<u32> {
+        row.windows(self.wide as usize)
+            .map(|window| self.table[window.iter().fold(0, |n, &cell| n * self.kinds + cell) as usize])
+            .collect()
+    }
+}
+
+/// As the programs read it.
+impl std::fmt::Display for Rule {
+    fn fmt(&self, f: &mut std::fmt::Formatter) -> std::fmt::Result {
+        write!(f, "{} {} ", self.kinds, self.wide)?;
+        self.table.iter().try_for_each(|cell| write!(f, "{cell:x}"))
+    }
+}
+
 /// Kinds and widths of all rules that can be decided: at most 16 blocks.
 pub const SIZES: [(u32, u32); 19] = [
     (2, 2), (2, 3), (2, 4), (2, 5), (3, 2), (3, 3), (4, 2), (4, 3), (5, 2), (6, 2),
@@ -99,6 +116,43 @@ pub fn of_16_blocks(random: &mut Random, n: usize) -> Vec<Rule> {
         .map(|i| match i % 4 {
             3 => conditional(random, LARGEST[i / 4 % 3]),
             changes => permutive(random, LARGEST[i / 4 % 3], changes as u32),
+        })
+        .collect()
+}
+
+/// The first cell, with what a function of the others says added to it. A search from equal blocks on goes through all
+/// pairs and finds no way back to equal ones, since what is known of a row from some cell on tells the cell before.
+pub fn shifted(random: &mut Random, (kinds, wide): (u32, u32), choices: u32) -> Rule {
+    let blocks = kinds.pow(wide - 1);
+    let shifts: Vec<u32> = (0..blocks).map(|_| random.below(choices)).collect();
+    let table = (0..blocks * kinds)
+        .map(|window| (window / blocks + shifts[(window % blocks) as usize]) % kinds)
+        .collect();
+    Rule { kinds, wide, table }
+}
+
+/// Rules whose search goes through the most pairs: of each size the first cell alone, and then with functions of the others
+/// at random.
+pub fn of_most_pairs(random: &mut Random, n: usize) -> Vec<Rule> {
+    (0..n)
+        .map(|i| {
+            let size = LARGEST[i % 3];
+            let choices = if i < 3 { 1 } else { size.0 };
+            shifted(random, size, choices)
+        })
+        .collect()
+}
+
+/// Rules of 16 blocks, among which slow ones are looked for.
+pub fn many_of_16_blocks(random: &mut Random) -> Vec<Rule> {
+    (0..6000)
+        .map(|i| {
+            let size = LARGEST[i % 3];
+            match i % 5 {
+                0 => uniform(random, size),
+                1 => conditional(random, size),
+                changes => permutive(random, size, changes as u32 - 2),
+            }
         })
         .collect()
 }

@@ -1,17 +1,19 @@
 //! The proved library side by side with plain Rust: the same rules in one process, every answer compared.
 
 mod families;
+mod finite;
 mod ours;
 mod plain;
+mod plain_finite;
+mod programs;
+mod rounds;
 
 use families::{Random, Rule};
 use plain::{Answer, Plain};
+use rounds::{best_times, print_row, print_title, slowest, ROUNDS};
 use std::time::Instant;
 
 const CELLS: usize = 262_144;
-
-/// A measurement is the least of so many rounds, ours and plain in turn.
-const ROUNDS: usize = 5;
 
 struct Desk {
     plain: Plain,
@@ -28,8 +30,11 @@ fn main() {
         theirs: vec![0; CELLS],
     };
     let mut random = Random::new(1);
-    let slow = slowest(&mut desk, &mut random);
-    println!("{:56} {:>8} {:>12} {:>12} {:>7}", "", "rules", "ours", "plain", "ratio");
+    let slow = slowest(families::many_of_16_blocks(&mut random), |rule| {
+        ours::decide(rule.kinds, rule.wide, &rule.table, &mut desk.ours, &mut desk.work);
+    });
+    let slow: Vec<Rule> = slow.into_iter().map(|(_, rule)| rule).collect();
+    print_title("ours", "plain");
     decide_row(&mut desk, "(a) all of two kinds and width 4", &families::all_of_width_4());
     decide_row(&mut desk, "(b) at random, of all sizes", &families::of_all_sizes(&mut random, 10_000));
     decide_row(&mut desk, "(c) permutive and nearly so, of 16 blocks", &families::of_16_blocks(&mut random, 240));
@@ -37,32 +42,23 @@ fn main() {
     for kinds in [2, 4, 16] {
         ring_rows(&mut random, kinds);
     }
+    finite::rows(&mut random);
+    print_title("finite", "decide");
+    finite::row_beside_decide();
+    programs::row_beside_decide();
 }
 
 /// Both decide all rules; the time is for each rule.
 fn decide_row(desk: &mut Desk, name: &str, rules: &[Rule]) {
-    let mut best = [f64::INFINITY; 2];
-    for _ in 0..ROUNDS {
-        let start = Instant::now();
-        for rule in rules {
-            std::hint::black_box(ours::decide(rule.kinds, rule.wide, &rule.table, &mut desk.ours, &mut desk.work));
-        }
-        best[0] = best[0].min(start.elapsed().as_secs_f64());
-        let start = Instant::now();
-        for rule in rules {
-            std::hint::black_box(desk.plain.decide(rule.kinds, rule.wide, &rule.table, &mut desk.theirs));
-        }
-        best[1] = best[1].min(start.elapsed().as_secs_f64());
-    }
+    let best = best_times(
+        rules,
+        |rule| ours::decide(rule.kinds, rule.wide, &rule.table, &mut desk.ours, &mut desk.work),
+        |rule| desk.plain.decide(rule.kinds, rule.wide, &rule.table, &mut desk.theirs),
+    );
     for rule in rules {
         compare(desk, rule);
     }
-    print_row(name, rules.len(), best.map(|seconds| seconds / rules.len() as f64));
-}
-
-fn print_row(name: &str, n: usize, [ours, plain]: [f64; 2]) {
-    let micro = 1e6;
-    println!("{name:56} {n:8} {:9.3} us {:9.3} us {:7.2}", ours * micro, plain * micro, ours / plain);
+    print_row(name, rules.len(), best);
 }
 
 /// Ways back and orphans are the same cell for cell; two rows are any two of one next row.
@@ -91,31 +87,10 @@ fn are_twins(rule: &Rule, left: usize, mid: usize, right: usize, cells: &[u32]) 
         let mut all = row[..left].repeat(copies);
         all.extend_from_slice(&row[left..left + mid]);
         all.extend(row[left + mid..].repeat(copies));
-        all.windows(rule.wide as usize)
-            .map(|window| rule.table[window.iter().fold(0, |n, &cell| n * rule.kinds + cell) as usize])
-            .collect()
+        rule.next_row(&all)
     };
     first[left..left + mid] != second[left..left + mid]
         && (0..=rule.wide as usize).all(|copies| next(first, copies) == next(second, copies))
-}
-
-/// The 200 rules of many that take the plain program longest.
-fn slowest(desk: &mut Desk, random: &mut Random) -> Vec<Rule> {
-    let mut timed: Vec<(u128, Rule)> = Vec::new();
-    for i in 0..6000 {
-        let size = families::LARGEST[i % 3];
-        let rule = match i % 5 {
-            0 => families::uniform(random, size),
-            1 => families::conditional(random, size),
-            changes => families::permutive(random, size, changes as u32 - 2),
-        };
-        let start = Instant::now();
-        ours::decide(rule.kinds, rule.wide, &rule.table, &mut desk.ours, &mut desk.work);
-        timed.push((start.elapsed().as_nanos(), rule));
-    }
-    timed.sort_by_key(|(time, _)| std::cmp::Reverse(*time));
-    timed.truncate(200);
-    timed.into_iter().map(|(_, rule)| rule).collect()
 }
 
 /// Seconds of 12,000 cells, by a rule and by a way back: a rule of width 3 (16 kinds: 2) and a table of width 4 (16: 3).

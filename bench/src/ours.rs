@@ -1,6 +1,7 @@
 //! The proved library, by its C interface.
 
 use crate::plain::Answer;
+use crate::plain_finite::Finite;
 
 /// As `include/undone.h` has it.
 #[repr(C)]
@@ -15,6 +16,17 @@ struct Numbers {
     right: usize,
 }
 
+/// As `include/undone.h` has it.
+#[repr(C)]
+#[derive(Clone, Copy)]
+struct FiniteNumbers {
+    answer: u32,
+    left: usize,
+    middle: usize,
+    right: usize,
+    wanted: usize,
+}
+
 extern "C" {
     #[allow(clippy::too_many_arguments)]
     fn undone_decide(
@@ -27,6 +39,18 @@ extern "C" {
         work: *mut u32,
         work_words: usize,
     ) -> Numbers;
+
+    #[allow(clippy::too_many_arguments)]
+    fn undone_finite(
+        kinds: u32,
+        wide: u32,
+        table: *const u32,
+        table_cells: usize,
+        out: *mut u32,
+        out_cells: usize,
+        work: *mut u32,
+        work_words: usize,
+    ) -> FiniteNumbers;
 
     #[allow(clippy::too_many_arguments)]
     fn undone_steps(
@@ -66,6 +90,33 @@ pub fn decide(kinds: u32, wide: u32, table: &[u32], out: &mut [u32], work: &mut 
         4 => Answer::UndoneFull { width: told.width, place: told.place },
         5 => Answer::OrphanFull { cells: told.orphan },
         _ => Answer::NoRule,
+    }
+}
+
+pub const FINITE_WORK: usize = 4096;
+
+/// So many cells of `out` always suffice.
+pub const FINITE_ROWS: usize = 1024;
+
+pub fn find_twins(kinds: u32, wide: u32, table: &[u32], out: &mut [u32], work: &mut [u32]) -> Finite {
+    // Each slice is a pointer and its length, and none overlaps another.
+    let told = unsafe {
+        undone_finite(
+            kinds,
+            wide,
+            table.as_ptr(),
+            table.len(),
+            out.as_mut_ptr(),
+            out.len(),
+            work.as_mut_ptr(),
+            work.len(),
+        )
+    };
+    match told.answer {
+        1 => Finite::Twins { left: told.left, mid: told.middle, right: told.right },
+        2 => Finite::NoTwins,
+        3 => Finite::Full(told.wanted),
+        _ => Finite::NoRule,
     }
 }
 

@@ -43,11 +43,11 @@ pub struct Plain {
 
 /// A checked rule.
 #[derive(Clone, Copy)]
-struct Rule<'a> {
-    kinds: usize,
-    blocks: usize,
-    wide: usize,
-    table: &'a [u32],
+pub struct Rule<'a> {
+    pub kinds: usize,
+    pub blocks: usize,
+    pub wide: usize,
+    pub table: &'a [u32],
 }
 
 impl Plain {
@@ -296,7 +296,7 @@ impl Plain {
     }
 }
 
-fn check(kinds: u32, wide: u32, table: &[u32]) -> Option<Rule<'_>> {
+pub fn check(kinds: u32, wide: u32, table: &[u32]) -> Option<Rule<'_>> {
     if kinds < 2 || wide < 2 {
         return None;
     }

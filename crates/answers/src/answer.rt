@@ -1,15 +1,17 @@
-// The answer line of a decided rule.
+// The answer lines of rules.
 ghost use Rattle.std.specs.Prelude.{◌≡◌, ◌^◌, ◌++◌, take, IfOk, string_bytes, OnOk};
-ghost use Rattle.answers.specs.Answers.{answer_text, row_words, spaced, undone_words};
+ghost use Rattle.answers.specs.Answers.{answer_text, row_words, spaced, twins_words, undone_words};
+ghost use Rattle.answers.specs.FiniteAnswers.{finite_text};
 ghost use Rattle.answers.specs.Endless.{row_of};
 
 use crate::endless::{EndlessRow, split_front, two_rows};
+use finite::Finite;
 use std::alloc::{AllocError, Global};
 use text::print::{Alphabet, NoText, write_cells};
 use twins::Lengths;
 use undone::Decided;
 
-// The line of an answer, whose cells stand first in `out`.
+// The line of a decision, whose cells stand first in `out`.
 pub fn answer_line(
     heap: Global,
     kinds: u32,
@@ -36,17 +38,35 @@ pub fn answer_line(
             Ok(line)
         }
         Decided::OrphanFull(_) => Ok(String::from_str(heap, "orphan full")?),
-        Decided::Twins(left, mid, right) => {
-            let mut line = String::from_str(heap, "twins")?;
-            let (first, second) = two_rows(Lengths { left, mid, right }, out);
-            add_row(&mut line, first)?;
-            add_row(&mut line, second)?;
-            Ok(line)
-        }
+        Decided::Twins(left, mid, right) => twins_line(heap, Lengths { left, mid, right }, out),
         Decided::TwinsFull => Ok(String::from_str(heap, "twins full")?),
         Decided::NoRule => Ok(String::from_str(heap, "no rule")?),
         Decided::Few => Ok(String::from_str(heap, "few")?),
     }
+}
+
+// The line of two rows that differ at finitely many places, which stand first in `out`, or why there are none.
+pub fn finite_line(heap: Global, finite: Finite, out: &[u32]) -> Result<String, NoText>
+    ensures { IfOk result (λ s. string_bytes s ≡ finite_text out.now finite) }
+{
+    match finite {
+        Finite::Twins(left, mid, right) => twins_line(heap, Lengths { left, mid, right }, out),
+        Finite::Full(_) => Ok(String::from_str(heap, "twins full")?),
+        Finite::NoTwins => Ok(String::from_str(heap, "none")?),
+        Finite::NoRule => Ok(String::from_str(heap, "no rule")?),
+        Finite::Few => Ok(String::from_str(heap, "few")?),
+    }
+}
+
+// Two rows that stand first in `out`.
+fn twins_line(heap: Global, lengths: Lengths, out: &[u32]) -> Result<String, NoText>
+    ensures { IfOk result (λ s. string_bytes s ≡ twins_words lengths.left lengths.mid lengths.right out.now) }
+{
+    let mut line = String::from_str(heap, "twins")?;
+    let (first, second) = two_rows(lengths, out);
+    add_row(&mut line, first)?;
+    add_row(&mut line, second)?;
+    Ok(line)
 }
 
 fn format_undone(heap: Global, width: u32, place: u32) -> Result<String, AllocError>

@@ -2,10 +2,12 @@
 ghost use Rattle.std.specs.Prelude.{◌≡◌, true, length, is_ok, IfOk, MatchResult};
 ghost use Rattle.rules.specs.Checks.{Unfit};
 ghost use Rattle.std.proofs.Props.{props};
+ghost use Rattle.finite.specs.Told.{FinitePost};
 ghost use Rattle.undone.specs.Decided.{Answer, DecidedPost};
 ghost use Rattle.rules.specs.Local.{the_rule};
 ghost use Rattle.rules.specs.Rules.{rule_of, Sound};
 
+use finite::{Finite, find_twins};
 use rules::local::LocalRule;
 use rules::rule::NoRule;
 use rules::sound::SoundRule;
@@ -64,5 +66,12 @@ impl GivenRule {
     {
         let mut work = vec![in heap; 0; WORK]?;
         Ok(self.decide_in(out, work.as_mut_slice()))
+    }
+    // Finds two rows that differ at finitely many places and have one next row, in words of work that are lent; the rows stand first in
+    // `out`.
+    pub fn find_twins_in(&self, out: &mut [u32], work: &mut [u32]) -> Finite
+        ensures { FinitePost self.now.kinds self.now.wide self.now.table.items (length work.old) out.old out.new result }
+    {
+        find_twins(self.kinds, self.wide, self.table.as_slice(), out, work)
     }
 }

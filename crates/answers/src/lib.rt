@@ -5,4 +5,5 @@ pub mod answer;
 pub mod elementary;
 pub mod endless;
 pub mod given;
+pub mod twins_workspace;
 pub mod workspace;

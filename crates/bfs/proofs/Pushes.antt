@@ -7,7 +7,7 @@ use Rattle.bfs.specs.Search.{state_at, word_of, FoundAt, rank, rank_of, Pushed, 
 use Rattle.bfs.proofs.Ranks.{rank_push, run_push}
 use Rattle.bfs.proofs.Spelling.{long_after, at-written, at_other, word_kept, pushed_inside, word_last}
 
-module _ {n k : ℕ} {leads : ℕ → ℕ → ℕ} {s : ℕ} {q : Queue} {p c : ℕ} {v : ℕ} {q' : Queue} (r : Searched n k leads s q p c) (here : p < q.tail) (known : c < k) (is : v ≡ leads (state_at q p) c) (pushed : Pushed q v p c q') where
+module _ {n k : ℕ} {leads : ℕ → ℕ → ℕ} {dead : ℕ → Type 0} {s : ℕ} {q : Queue} {p c : ℕ} {v : ℕ} {q' : Queue} (r : Searched n k leads dead s q p c) (here : p < q.tail) (known : c < k) (is : v ≡ leads (state_at q p) c) (pushed : Pushed q v p c q') where
   h : Holds n k leads s q
   h = r.holds
 
@@ -56,20 +56,21 @@ module _ {n k : ℕ} {leads : ℕ → ℕ → ℕ} {s : ℕ} {q : Queue} {p c : 
             j l less;
       }
 
-  met_push : (i d : ℕ) → i < q.tail → Met k leads q i d → Met k leads q' i d
-  met_push i d l (j, found, le) =
+  met_push : (i d : ℕ) → i < q.tail → Met k leads dead q i d → Met k leads dead q' i d
+  met_push i d l met live =
+      let (j, found, le) = met (rw (state_old i l) at live) in
       (j, rw (state_old i l) (found_old _ j found), omega (arith, rank_old j found.inside, ap (λ x. x * k) (rank_old i l)))
 
   -- a state that is new is pushed, by the place p and the symbol c
-  pub searched_push : Searched n k leads s q' p (c + 1)
+  pub searched_push : Searched n k leads dead s q' p (c + 1)
   searched_push =
       let rank-here = ap (λ x. x * k) (rank_old p here) in
       record {
         holds = holds_push;
         expanded = λ i d l m. met_push i d (omega arith) (r.expanded i d l m);
         begun =
-            below_more (Met k leads q' p) c
+            below_more (Met k leads dead q' p) c
             (λ d l. met_push p d here (r.begun d l))
-            (q.tail, rw (state_old p here, ← is) found_last, omega (arith, rank_last));
+            (λ live. (q.tail, rw (state_old p here, ← is) found_last, omega (arith, rank_last)));
         next = λ j l m. each (λ j. rank_of k q' j ≤ rank_of k q' p * k + (c + 1)) (λ j l. omega (arith, r.next j l here, rank_old j l)) (omega (arith, rank_last)) j l;
       }

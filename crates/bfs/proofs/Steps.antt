@@ -15,8 +15,8 @@ module _ {n s : ℕ} {q q' : Queue} (empty : Empty n q) (pushed : Pushed q s 0 0
   start-at : (j : ℕ) → j < q'.tail → state_at q' j ≡ s
   start-at j l = ap (state_at q') {y = q.tail} (omega (arith, pushed.tail)) ∙ at-written q.states.now q.tail s pushed.states (pushed_inside pushed)
 
-  pub searched_start : {k : ℕ} {leads : ℕ → ℕ → ℕ} → Searched n k leads s q' 0 0
-  searched_start {k} {leads} =
+  pub searched_start : {k : ℕ} {leads : ℕ → ℕ → ℕ} {dead : ℕ → Type 0} → Searched n k leads dead s q' 0 0
+  searched_start {k} {leads} {dead} =
       record {
         holds =
             record {
@@ -42,17 +42,17 @@ module _ {q : Queue} {u : ℕ} where
   at_some (Some i) some e = (i, some)
 
 -- the place p, which holds the state v, is being expanded, and the symbols below c were followed
-pub record Expanding (n k : ℕ) (leads : ℕ → ℕ → ℕ) (s : ℕ) (q : Queue) (p v c : ℕ) : Type 0 where
-  pub searched : Searched n k leads s q p c
+pub record Expanding (n k : ℕ) (leads : ℕ → ℕ → ℕ) (dead : ℕ → Type 0) (s : ℕ) (q : Queue) (p v c : ℕ) : Type 0 where
+  pub searched : Searched n k leads dead s q p c
   pub here : p < q.tail
   pub state : state_at q p ≡ v
 
-module _ {n k : ℕ} {leads : ℕ → ℕ → ℕ} {s : ℕ} {q : Queue} {p v c : ℕ} (e : Expanding n k leads s q p v c) where
-  r : Searched n k leads s q p c
+module _ {n k : ℕ} {leads : ℕ → ℕ → ℕ} {dead : ℕ → Type 0} {s : ℕ} {q : Queue} {p v c : ℕ} (e : Expanding n k leads dead s q p v c) where
+  r : Searched n k leads dead s q p c
   r = e.searched
 
   -- a state that is new is pushed
-  pub expanding_push : {u : ℕ} {q' : Queue} → c < k → u ≡ leads v c → Pushed q u p c q' → Expanding n k leads s q' p v (c + 1)
+  pub expanding_push : {u : ℕ} {q' : Queue} → c < k → u ≡ leads v c → Pushed q u p c q' → Expanding n k leads dead s q' p v (c + 1)
   expanding_push {u} known is pushed =
       record {
         searched = searched_push r e.here known (is ∙ ap (λ x. leads x c) (sym e.state)) pushed;
@@ -61,14 +61,14 @@ module _ {n k : ℕ} {leads : ℕ → ℕ → ℕ} {s : ℕ} {q : Queue} {p v c 
       }
 
   -- one that is found is passed over: no word in the queue is later than the word by this symbol
-  pub expanding_skip : {u : ℕ} → u ≡ leads v c → (i : ℕ) × FoundAt q u i → Expanding n k leads s q p v (c + 1)
+  pub expanding_skip : {u : ℕ} → u ≡ leads v c → (i : ℕ) × FoundAt q u i → Expanding n k leads dead s q p v (c + 1)
   expanding_skip {u} is (i, found) =
       record {
         searched =
             record {
               holds = r.holds;
               expanded = r.expanded;
-              begun = below_more (Met k leads q p) c r.begun (i, rw (e.state, ← is) found, omega (arith, r.next i found.inside e.here));
+              begun = below_more (Met k leads dead q p) c r.begun (λ live. (i, rw (e.state, ← is) found, omega (arith, r.next i found.inside e.here)));
               next = λ j l m. omega (arith, r.next j l m);
             };
         here = e.here;
@@ -76,11 +76,11 @@ module _ {n k : ℕ} {leads : ℕ → ℕ → ℕ} {s : ℕ} {q : Queue} {p v c 
       }
 
   -- once each symbol was followed, the next place is taken
-  pub searched_next : c ≡ k → Searched n k leads s q (p + 1) 0
+  pub searched_next : c ≡ k → Searched n k leads dead s q (p + 1) 0
   searched_next all =
       record {
         holds = r.holds;
-        expanded = λ i d l m. below_more (λ i. Met k leads q i d) p (λ i l. r.expanded i d l m) (r.begun d (omega arith)) i l;
+        expanded = λ i d l m. below_more (λ i. Met k leads dead q i d) p (λ i l. r.expanded i d l m) (r.begun d (omega arith)) i l;
         begun = λ d l. absurd (omega arith);
         next = λ j l m. omega (arith, r.next j l e.here, mul-le-mul_right {m = suc (rank_of k q p)} {n = rank_of k q (p + 1)} k (r.holds.rises p (p + 1) (omega arith) m), suc-mul (rank_of k q p) k);
       }

@@ -70,14 +70,18 @@ pub record Holds (n k : ℕ) (leads : ℕ → ℕ → ℕ) (s : ℕ) (q : Queue)
   pub runs : (j : ℕ) → j < q.tail → run leads s (word_of q j) ≡ state_at q j
   pub rises : (i j : ℕ) → i < j → j < q.tail → rank_of k q i < rank_of k q j
 
--- the state that the symbol d leads to from the place i is found, by a word no later than the one by that place
-abbrev pub Met : ℕ → (ℕ → ℕ → ℕ) → Queue → ℕ → ℕ → Type 0
-Met k leads q i d = (p : ℕ) × FoundAt q (leads (state_at q i) d) p × (rank_of k q p ≤ rank_of k q i * k + d + 1)
+-- from dead states no others are come to
+abbrev pub StaysDead : (ℕ → ℕ → ℕ) → (ℕ → Type 0) → Type 0
+StaysDead leads dead = (s c : ℕ) → dead s → dead (leads s c)
+
+-- the state that the symbol d leads to from the place i is found, by a word no later than the one by that place, unless it is dead
+abbrev pub Met : ℕ → (ℕ → ℕ → ℕ) → (ℕ → Type 0) → Queue → ℕ → ℕ → Type 0
+Met k leads dead q i d = (dead (leads (state_at q i) d) → ⊥) → (p : ℕ) × FoundAt q (leads (state_at q i) d) p × (rank_of k q p ≤ rank_of k q i * k + d + 1)
 
 -- how far a search from s is: the places before p are expanded, and p by the symbols below c; no word that is found comes after
 -- the next one, by the symbol c from the place p
-pub record Searched (n k : ℕ) (leads : ℕ → ℕ → ℕ) (s : ℕ) (q : Queue) (p c : ℕ) : Type 0 where
+pub record Searched (n k : ℕ) (leads : ℕ → ℕ → ℕ) (dead : ℕ → Type 0) (s : ℕ) (q : Queue) (p c : ℕ) : Type 0 where
   pub holds : Holds n k leads s q
-  pub expanded : (i d : ℕ) → i < p → d < k → Met k leads q i d
-  pub begun : (d : ℕ) → d < c → Met k leads q p d
+  pub expanded : (i d : ℕ) → i < p → d < k → Met k leads dead q i d
+  pub begun : (d : ℕ) → d < c → Met k leads dead q p d
   pub next : (j : ℕ) → j < q.tail → p < q.tail → rank_of k q j ≤ rank_of k q p * k + c

@@ -30,3 +30,7 @@ pub record FirstWord (k : ℕ) (leads : ℕ → ℕ → ℕ) (s t : ℕ) (w : Li
 -- no word leads from s to t
 abbrev pub NoWord : ℕ → (ℕ → ℕ → ℕ) → ℕ → ℕ → Type 0
 NoWord k leads s t = (w : List ℕ) → LeadsTo k leads s t w → ⊥
+
+-- a first word from s to t has fewer symbols than the n states that there are
+abbrev pub IsShort : ℕ → ℕ → (ℕ → ℕ → ℕ) → ℕ → ℕ → Type 0
+IsShort n k leads s t = (w : List ℕ) → FirstWord k leads s t w → length w < n

@@ -1,5 +1,5 @@
 // Searches of small automata, each in the middle of lent words.
-ghost use Rattle.std.specs.Prelude.{◌+◌, ◌%◌, ◌<◌, if◌then◌else◌, nat_eq};
+ghost use Rattle.std.specs.Prelude.{◌≡◌, ◌+◌, ◌%◌, ◌<◌, ◌&&◌, if◌then◌else◌, nat_eq, nat_lt};
 
 use super::*;
 
@@ -17,6 +17,8 @@ impl Automaton for Ring {
 
     ghost leads = { λ r s c. (s + (if nat_eq c 0 then r.short else r.long)) % 8 };
 
+    ghost dead = { λ _ _. ⊥ };
+
     fn states(&self) -> u32 {
         8
     }
@@ -25,9 +27,39 @@ impl Automaton for Ring {
         2
     }
 
-    fn follow(&self, state: u32, symbol: u32) -> u32 {
+    fn follow(&self, state: u32, symbol: u32) -> Option<u32> {
         let step = if symbol == 0 { self.short } else { self.long };
-        (state + step as u32) % 8
+        Some((state + step as u32) % 8)
+    }
+}
+
+// States up to 3, each of which one symbol leads from to the next, by turns 0 and 1. The others lead to the state 4, for good.
+#[derive(Clone, Copy)]
+struct Stairs;
+
+impl Automaton for Stairs {
+    ghost states = { λ _. 5 };
+
+    ghost symbols = { λ _. 2 };
+
+    ghost leads = { λ _ s c. if nat_lt s 3 && nat_eq c (s % 2) then s + 1 else 4 };
+
+    ghost dead = { λ _ s. s ≡ 4 };
+
+    fn states(&self) -> u32 {
+        5
+    }
+
+    fn symbols(&self) -> u32 {
+        2
+    }
+
+    fn follow(&self, state: u32, symbol: u32) -> Option<u32> {
+        if state < 3 && symbol == state % 2 {
+            Some(state + 1)
+        } else {
+            None
+        }
     }
 }
 
@@ -74,6 +106,21 @@ fn out_of_reach(rt: HostRuntime) {
     let mut out = [7; 2];
     assert_eq!(rt; found(Ring { short: 2, long: 6 }, 3, &mut out), Ok(None));
     assert_eq!(rt; out, [7, 7]);
+}
+
+#[test]
+fn dead_states_are_passed_over(rt: HostRuntime) {
+    let mut out = [7; 4];
+    let mut work = [9; 20];
+    assert_eq!(rt;
+        shortest_word(&Stairs, 0, 3, &mut out, &mut work, 0),
+        Ok(Some(3))
+    );
+    assert_eq!(rt; out, [0, 1, 0, 7]);
+    assert_eq!(rt;
+        shortest_word(&Stairs, 2, 1, &mut out, &mut work, 0),
+        Ok(None)
+    );
 }
 
 #[test]

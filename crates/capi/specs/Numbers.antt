@@ -1,6 +1,9 @@
 -- Answers as numbers.
 use Rattle.std.specs.Prelude.{◌≡◌, ◌⊎◌, List, ℕ, length}
+use Rattle.capi.specs.declared.FiniteNumbers.{FiniteNumbers}
 use Rattle.capi.specs.declared.Numbers.{Numbers}
+use Rattle.finite.specs.declared.Finite.{Finite}
+use Rattle.finite.specs.declared.Finite.TheVariants.{Twins as finite_twins, Full as finite_full, NoTwins as no_finite_twins, NoRule as no_finite_rule, Few as few_for_finite}
 use Rattle.ring.specs.declared.Held.{Held}
 use Rattle.ring.specs.declared.Held.TheVariants.{Row, Spare}
 use Rattle.ring.specs.declared.NoRing.{NoRing}
@@ -25,6 +28,18 @@ numbers_of (UndoneFull v o) = record { answer = 4; width = v; place = o; orphan 
 numbers_of (OrphanFull n) = record { answer = 5; width = 0; place = 0; orphan = n; left = 0; middle = 0; right = 0 }
 numbers_of TwinsFull = record { answer = 6; width = 0; place = 0; orphan = 0; left = 0; middle = 0; right = 0 }
 numbers_of Few = record { answer = 7; width = 0; place = 0; orphan = 0; left = 0; middle = 0; right = 0 }
+
+-- of rows that differ at finitely many places, an answer with nothing that belongs to it
+abbrev pub bare_finite : ℕ → FiniteNumbers
+bare_finite n = record { answer = n; left = 0; middle = 0; right = 0; wanted = 0 }
+
+-- and each answer
+abbrev pub finite_numbers_of : Finite → FiniteNumbers
+finite_numbers_of no_finite_rule = record { answer = 0; left = 0; middle = 0; right = 0; wanted = 0 }
+finite_numbers_of (finite_twins a b c) = record { answer = 1; left = a; middle = b; right = c; wanted = 0 }
+finite_numbers_of no_finite_twins = record { answer = 2; left = 0; middle = 0; right = 0; wanted = 0 }
+finite_numbers_of (finite_full n) = record { answer = 3; left = 0; middle = 0; right = 0; wanted = n }
+finite_numbers_of few_for_finite = record { answer = 4; left = 0; middle = 0; right = 0; wanted = 0 }
 
 abbrev pub held_number : Held → ℕ
 held_number Row = 0

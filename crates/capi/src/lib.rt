@@ -2,10 +2,13 @@
 
 // The library for C: answers as structs of numbers. `include/undone.h` declares what stands here.
 ghost use Rattle.std.specs.Prelude.{◌≡◌, length};
-ghost use Rattle.capi.specs.Numbers.{bare, numbers_of, Stepped};
+ghost use Rattle.capi.specs.Numbers.{bare, numbers_of, bare_finite, finite_numbers_of, Stepped};
+ghost use Rattle.finite.specs.declared.Finite.{Finite};
+ghost use Rattle.finite.specs.Told.{FinitePost};
 ghost use Rattle.undone.specs.declared.Decided.{Decided};
 ghost use Rattle.undone.specs.Decided.{DecidedPost};
 
+use finite::{Finite, find_twins};
 use ring::{Held, RingRule};
 use rules::local::LocalRule;
 use undone::{Decided, decide};
@@ -84,6 +87,67 @@ impl From<Decided> for Numbers {
             },
             Decided::TwinsFull => Numbers::of(6),
             Decided::Few => Numbers::of(7),
+        }
+    }
+}
+
+// What is told of rows that differ at finitely many places, by its number, with what belongs to it and 0 for the rest.
+#[repr(C)]
+#[derive(Clone, Copy, Default)]
+pub struct FiniteNumbers {
+    pub answer: u32,
+    // The cells of the parts of two rows.
+    pub left: usize,
+    pub middle: usize,
+    pub right: usize,
+    // The cells that two rows want, where fewer are lent.
+    pub wanted: usize,
+}
+
+// Finds two rows that differ at finitely many places and have one next row, as `find_twins` does.
+#[unsafe(no_mangle)]
+pub extern "C" fn undone_finite(
+    kinds: u32,
+    wide: u32,
+    table: &[u32],
+    out: &mut [u32],
+    work: &mut [u32],
+) -> FiniteNumbers
+    ensures { (d : Finite) × (result ≡ finite_numbers_of d) × FinitePost kinds wide table.now (length work.old) out.old out.new d }
+{
+    FiniteNumbers::from(find_twins(kinds, wide, table, out, work))
+}
+
+impl FiniteNumbers {
+    // An answer with nothing that belongs to it.
+    fn of(answer: u32) -> FiniteNumbers
+        ensures { result ≡ bare_finite answer }
+    {
+        FiniteNumbers {
+            answer,
+            ..FiniteNumbers::default()
+        }
+    }
+}
+
+impl From<Finite> for FiniteNumbers {
+    ghost from_gives = { λ d r. r ≡ finite_numbers_of d };
+
+    fn from(finite: Finite) -> FiniteNumbers {
+        match finite {
+            Finite::NoRule => FiniteNumbers::of(0),
+            Finite::Twins(left, middle, right) => FiniteNumbers {
+                left,
+                middle,
+                right,
+                ..FiniteNumbers::of(1)
+            },
+            Finite::NoTwins => FiniteNumbers::of(2),
+            Finite::Full(wanted) => FiniteNumbers {
+                wanted,
+                ..FiniteNumbers::of(3)
+            },
+            Finite::Few => FiniteNumbers::of(4),
         }
     }
 }

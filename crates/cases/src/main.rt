@@ -2,8 +2,8 @@
 
 // Carries out command lines of `run` from standard input, so that refusals are compared as well as rows.
 use commands::fault::Fault;
-use commands::programs::carry_out_lines;
+use commands::programs::{carry_out_lines, decide_or_run};
 
 fn main(rt: HostRuntime) -> Result<(), Fault> {
-    carry_out_lines(&rt, "run ")
+    carry_out_lines(&rt, "run ", decide_or_run)
 }

@@ -2,8 +2,8 @@
 
 // Carries out command lines of both commands from standard input, so that pictures and refusals are compared as well.
 use commands::fault::Fault;
-use commands::programs::carry_out_lines;
+use commands::programs::{carry_out_lines, decide_or_run};
 
 fn main(rt: HostRuntime) -> Result<(), Fault> {
-    carry_out_lines(&rt, "")
+    carry_out_lines(&rt, "", decide_or_run)
 }

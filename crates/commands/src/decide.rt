@@ -1,17 +1,22 @@
 // The command `decide`: whether rules can be run backwards, and a picture of the reason.
+ghost use Rattle.std.specs.Prelude.{◌≡◌, IfOk, string_bytes};
+ghost use Rattle.answers.specs.Answers.{answer_text};
+ghost use Rattle.rules.specs.Rules.{rule_of};
+ghost use Rattle.undone.specs.Decided.{Answer};
+ghost use Rattle.undone.specs.declared.Decided.{Decided};
+
 use crate::fault::Fault;
 use crate::files::write_file;
-use crate::lines::Line;
 use crate::options::Name;
 use crate::picture::draw;
 use crate::picture::plaque::draw_plaque;
 use crate::picture::terminal::Terminal;
-use crate::words::parse_rule;
+use crate::rule_lines::{AnswersRules, answer_lines};
+use crate::words::rule_of_words;
 use answers::answer::answer_line;
 use answers::given::GivenRule;
 use answers::workspace::Workspace;
 use std::alloc::Global;
-use std::io::{BufReader, Read};
 
 // The option before the file for the picture.
 const SVG: &str = "--svg";
@@ -49,7 +54,7 @@ pub fn decide(rt: &HostRuntime, args: &[String]) -> Result<(), Fault> {
         return Ok(rt.print(USAGE)?);
     }
     match args {
-        [word] if word.as_str() == "-" => decide_lines(rt),
+        [word] if word.as_str() == "-" => answer_lines(rt, &mut Workspace::new(rt.alloc())?),
         [words @ .., option, file] if option.as_str() == SVG => decide_one(rt, words, Some(file)),
         [option, file, words @ ..] if option.as_str() == SVG => decide_one(rt, words, Some(file)),
         [.., option] if option.as_str() == SVG => Err(Fault::NoValue(Name::Svg)),
@@ -79,48 +84,13 @@ fn decide_one(rt: &HostRuntime, words: &[String], file: Option<&String>) -> Resu
     }
 }
 
-// What is wrong with the words is told as under `-`.
-fn rule_of_words(heap: Global, words: &[String]) -> Result<GivenRule, Fault> {
-    match parse_rule(heap, words) {
-        Ok(given) => Ok(given),
-        Err(fault) if fault.is_failure() => Err(fault),
-        Err(fault) => Err(Fault::NoRule(format!(in heap; "{fault}")?)),
+impl AnswersRules for Workspace {
+    fn answer(&mut self, heap: Global, given: &GivenRule) -> Result<String, Fault>
+        ensures { IfOk result (λ s. (d : Decided)
+            × Answer (rule_of given.now.kinds given.now.wide given.now.table.items) self.old.out.items self.new.out.items d
+            × (string_bytes s ≡ answer_text given.now.kinds self.new.out.items d)) }
+    {
+        let decided = self.decide(given);
+        Ok(answer_line(heap, given.kinds(), decided, self.told())?)
     }
-}
-
-// Answers the rules of standard input, in a workspace that is made once.
-fn decide_lines(rt: &HostRuntime) -> Result<(), Fault> {
-    let mut workspace = Workspace::new(rt.alloc())?;
-    let mut line = Line::new(rt.alloc());
-    // Byte by byte, since `lines` would hold a line of any length.
-    for byte in BufReader::new(rt.alloc(), rt.stdin())?.bytes() {
-        let byte = byte?;
-        if byte == b'\n' {
-            answer_to(rt, &line, &mut workspace)?;
-            line.clear();
-        } else {
-            line.push(byte)?;
-        }
-    }
-    // The last line may end without a newline.
-    if line.is_empty() {
-        return Ok(());
-    }
-    answer_to(rt, &line, &mut workspace)
-}
-
-// Prints the answer to a line. What is no rule is answered too.
-fn answer_to(rt: &HostRuntime, line: &Line, workspace: &mut Workspace) -> Result<(), Fault> {
-    match decide_line(rt.alloc(), line, workspace) {
-        Ok(answer) => Ok(println!(rt; "{answer}")?),
-        Err(fault) if fault.is_failure() => Err(fault),
-        Err(fault) => Ok(println!(rt; "no rule: {fault}")?),
-    }
-}
-
-fn decide_line(heap: Global, line: &Line, workspace: &mut Workspace) -> Result<String, Fault> {
-    let words = line.words(heap)?;
-    let given = parse_rule(heap, words.as_slice())?;
-    let decided = workspace.decide(&given);
-    Ok(answer_line(heap, given.kinds(), decided, workspace.told())?)
 }

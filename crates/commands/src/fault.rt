@@ -24,6 +24,9 @@ pub enum Fault {
     UnknownOption(String),
     #[error("expected a value after {0}")]
     NoValue(Name),
+    // What a parser of arguments says of them, with their usage.
+    #[error("{0}")]
+    Usage(String),
     #[error("expected a whole number for {0} that is not too large, and found {1}")]
     NoNumber(Name, String),
     #[error("expected --row or --random, and found both")]

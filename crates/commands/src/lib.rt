@@ -13,5 +13,6 @@ pub mod programs;
 pub mod random;
 pub mod ring_row;
 pub mod rows;
+pub mod rule_lines;
 pub mod run;
 pub mod words;

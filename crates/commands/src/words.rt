@@ -1,5 +1,6 @@
 // Words, and a rule that is given in them: KINDS WIDTH TABLE, or wolfram N.
-ghost use Rattle.std.specs.Prelude.{◌≡◌, IfOk};
+ghost use Rattle.std.specs.Prelude.{◌≡◌, ◌⊎◌, IfOk, IfErr};
+ghost use Rattle.commands.specs.Failure.{Failure, IsNoRule};
 
 use crate::cells::{MOST_KINDS, read_cells};
 use crate::fault::{BadRule, BadTable, Fault};
@@ -25,6 +26,17 @@ pub fn parse_rule(heap: Global, words: &[String]) -> Result<GivenRule, Fault> {
         [kinds, wide, cells] => parse_table(heap, kinds.as_str(), wide.as_str(), cells.as_str()),
         [_, _, _, extra, ..] => Err(Fault::ExtraWord(extra.clone()?)),
         _ => Err(Fault::FewWords),
+    }
+}
+
+// The rule of a command's arguments. What is wrong with it is told as it is answered under `-`.
+pub fn rule_of_words(heap: Global, words: &[String]) -> Result<GivenRule, Fault>
+    ensures { IfErr result (λ f. Failure f ⊎ IsNoRule f) }
+{
+    match parse_rule(heap, words) {
+        Ok(given) => Ok(given),
+        Err(fault) if fault.is_failure() => Err(fault),
+        Err(fault) => Err(format!(in heap; "{fault}").map_or_else(Fault::Memory, Fault::NoRule)),
     }
 }
 

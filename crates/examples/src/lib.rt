@@ -4,6 +4,8 @@
 #[cfg(test)]
 mod decisions;
 #[cfg(test)]
+mod finite_twins;
+#[cfg(test)]
 mod parts;
 #[cfg(test)]
 mod rings;

@@ -60,6 +60,9 @@ impl<S: SubsetSteps> Automaton for SubsetAutomaton<S> {
 
     ghost leads = { λ a. follow (S.of a.steps) };
 
+    // None is passed over: only the empty set leads to no other, and that is what is looked for.
+    ghost dead = { λ _ _. ⊥ };
+
     fn states(&self) -> u32 {
         1 << self.steps.blocks()
     }
@@ -68,7 +71,7 @@ impl<S: SubsetSteps> Automaton for SubsetAutomaton<S> {
         self.steps.kinds()
     }
 
-    fn follow(&self, state: u32, symbol: u32) -> u32 {
-        self.steps.step(BlockSet(state), Kind(symbol)).0
+    fn follow(&self, state: u32, symbol: u32) -> Option<u32> {
+        Some(self.steps.step(BlockSet(state), Kind(symbol)).0)
     }
 }

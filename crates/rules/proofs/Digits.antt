@@ -1,10 +1,10 @@
 -- Numbers of windows: one cell more at the right, one less at the left, and that they tell the cells.
-use Rattle.std.proofs.Common.{◌≡◌, ℕ, zero, suc, ◌+◌, ◌*◌, ◌/◌, ◌%◌, ◌^◌, ◌<◌, ◌≤◌, List, [], ◌∷◌, ◌++◌, length, get_or, take, drop, sym, refl, ap, ◌∙◌, ap₂, pow-suc, arith, length-drop, take-append-drop, length-take-le, take_all}
-use native.Mathlib.Nat.{pow-succ', pow-zero, pow-le-pow_right}
+use Rattle.std.proofs.Common.{◌≡◌, ℕ, zero, suc, ◌+◌, ◌-◌, ◌*◌, ◌/◌, ◌%◌, ◌^◌, ◌<◌, ◌≤◌, List, [], ◌∷◌, ◌++◌, length, get_or, take, drop, set, sym, refl, ap, ◌∙◌, subst, ap₂, mul_assoc, mul_comm, suc-mul, pow-suc, arith, length-drop, length-set, take-append-drop, length-take-le, take_all}
+use native.Mathlib.Nat.{add-mul, zero-mul, pow-succ', pow-zero, pow-le-pow_right}
 use Rattle.std.specs.Int.Digits.{number_from_digits_after}
 use Rattle.std.proofs.lemmas.Nat.{div-mul-add, mod-mul-add, div-add-mod', div_below, mod_below}
 use Rattle.std.proofs.lemmas.Int.Digits.{number_more, number_lt, number_push, number_after_append}
-use Rattle.std.proofs.lemmas.List.{length_push}
+use Rattle.std.proofs.lemmas.List.{length_push, drop_all, drop-set}
 use Rattle.std.proofs.ByRecursion.{All-take, All-drop, All-push, All-get_or}
 use Rattle.rules.specs.Rules.{Cells, digits}
 
@@ -95,3 +95,47 @@ digits_within k u i h inside =
     let below = digits_lt k (take (i + 1) u) (All-take (λ c. c < k) (i + 1) u h) in
     let most : k ^ length (take (i + 1) u) ≤ k ^ length u = pow-le-pow_right some (omega arith) in
     omega (arith, digits_more k u i inside)
+
+-- the cells from i on are the last digits of the number a, and the digits before them are those of rest
+pub record Spelled (k a i : ℕ) (cells : List ℕ) (rest : ℕ) : Type 0 where
+  pub kinds : Cells k (drop i cells)
+  pub number : rest * k ^ (length cells - i) + digits k 0 (drop i cells) ≡ a
+
+pub spelled_none : (k a : ℕ) (cells : List ℕ) → Spelled k a (length cells) cells a
+spelled_none k a cells =
+    let none = drop_all (length cells) cells (omega arith) in
+    record {
+      kinds = subst (Cells k) (sym none) tt;
+      number = ap₂ (λ n u. a * k ^ n + digits k 0 u) {y = 0} (omega arith) none ∙ rw pow-zero (omega arith);
+    }
+
+pub spelled_more : {k a j : ℕ} {cells : List ℕ} {rest : ℕ} → 0 < k → (i : ℕ) → j ≡ i + 1 → i < length cells → Spelled k a j cells rest → Spelled k a i (set cells i (rest % k)) (rest / k)
+spelled_more {k} {a} {j} {cells} {rest} some i next inside later =
+    let s = subst (λ n. Spelled k a n cells rest) next later in
+    let now = drop-set cells i (rest % k) inside in
+    let behind = drop (i + 1) cells in
+    let m : ℕ = length cells - (i + 1) in
+    record {
+      kinds = subst (Cells k) (sym now) (mod_below rest k some, s.kinds);
+      number =
+          ap₂ (λ n u. rest / k * k ^ n + digits k 0 u) {y = suc m} (omega (arith, length-set cells i (rest % k))) now
+          ∙ ap₂ (λ p d. rest / k * p + d) (pow-suc k m) (digits-after k (0 * k + rest % k) behind ∙ ap (λ n. (0 * k + rest % k) * k ^ n + digits k 0 behind) {y = m} (omega (arith, length-drop (i + 1) cells)))
+          ∙ joined (k ^ m) (digits k 0 behind)
+          ∙ s.number;
+    }
+  where
+    joined : (p d : ℕ) → rest / k * (p * k) + ((0 * k + rest % k) * p + d) ≡ rest * p + d
+    joined p d =
+        let split = ap (λ n. n * p) (div-add-mod' rest k) in
+        let times = mul_assoc (rest / k) k p ∙ ap (λ n. rest / k * n) (mul_comm k p) in
+        omega (arith, split, add-mul (rest / k * k) (rest % k) p, times, ap (λ n. n * p) {x = 0 * k + rest % k} {y = rest % k} (omega arith))
+
+pub spelled_all : {k a i : ℕ} {cells : List ℕ} {rest : ℕ} → i ≡ 0 → a < k ^ length cells → Spelled k a i cells rest → Cells k cells × (digits k 0 cells ≡ a)
+spelled_all {k} {a} {i} {cells} {rest} first inside later =
+    let s = subst (λ n. Spelled k a n cells rest) first later in
+    let number = ap (λ n. rest * k ^ n + digits k 0 cells) {x = length cells} (omega arith) ∙ s.number in
+    (s.kinds, omega (arith, number, no_rest rest number))
+  where
+    no_rest : (n : ℕ) → n * k ^ length cells + digits k 0 cells ≡ a → n * k ^ length cells ≡ 0
+    no_rest zero e = omega (arith, zero-mul (k ^ length cells))
+    no_rest (suc n) e = absurd (omega (arith, suc-mul n (k ^ length cells)))

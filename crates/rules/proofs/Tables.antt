@@ -1,5 +1,6 @@
 -- Tables of rules: how long they are, and that they fit.
 use Rattle.std.proofs.Common.{◌≡◌, ℕ, suc, ◌-◌, ◌*◌, ◌^◌, ◌<◌, ◌≤◌, List, sym, ap, ◌∙◌, subst, pow-suc, arith}
+use native.Mathlib.Nat.{pow-le-pow_right, pow-zero}
 use Rattle.std.proofs.ByRecursion.{All-from_get_or}
 use Rattle.rules.specs.declared.local.LocalRule.{LocalRule}
 use Rattle.rules.specs.declared.sound.SoundRule.{SoundRule}
@@ -28,3 +29,11 @@ sound_rule s =
 -- a checked table that is a rule
 pub sound_local : (l : LocalRule) {k m : ℕ} {t : List ℕ} → l.kinds ≡ k → l.wide ≡ m → l.table.now ≡ t → Sound (rule_of k m t) → Sound (the_rule l)
 sound_local l kinds wide table sound = subst Sound (λ i. rule_of (sym kinds i) (sym wide i) (sym table i)) sound
+
+-- a rule with few blocks has no more kinds: a block has one cell at least
+pub kinds_le : {r : Rule} → Sound r → r.kinds ≤ 16
+kinds_le {r} s =
+    omega (arith, pow_one r.kinds, pow-le-pow_right {n = r.kinds} (omega arith) {i = 1} {j = r.wide - 1} (omega arith), s.small)
+  where
+    pow_one : (k : ℕ) → k ^ 1 ≡ k
+    pow_one k = rw (pow-suc, pow-zero) (omega arith)

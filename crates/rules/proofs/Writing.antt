@@ -43,3 +43,14 @@ puts_behind o o' part x y n is inside long (front, rest) (front-y, rest-y) = (
     now =
         ap₂ (λ z v. z ++ (part ++ v)) (ap (λ i. take i o') is ∙ front) (drop_all (length o' - n) (drop n o') (omega (arith, length-drop n o')))
         ∙ ap (λ z. x ++ z) (append-nil part)
+
+-- a row in two pieces, the second of which was written to the cells behind the first
+pub puts_split : (o p x rest : List ℕ) → Puts (drop (length p) o) rest x → Puts o (p ++ rest) (p ++ x)
+puts_split o p x rest (front, back) = (
+  ap (λ n. take n (p ++ rest)) (length-append p x) ∙ take-append-add p rest (length x) ∙ ap (λ z. p ++ z) front,
+  ap (λ n. drop n (p ++ rest)) (length-append p x)
+      ∙ drop-append-add p rest (length x)
+      ∙ back
+      ∙ drop-drop (length x) (length p) o
+      ∙ ap (λ n. drop n o) (sym (length-append p x)),
+)

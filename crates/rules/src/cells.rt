@@ -39,6 +39,21 @@ impl Window {
         }
         window
     }
+
+    // Writes the cells of the window, which has as many as are lent.
+    pub fn spell(self, kinds: u32, cells: &mut [u32])
+        requires some { 0 < kinds }
+        requires inside { self.0 < kinds ^ length cells.old }
+        ensures cells { Cells kinds cells.new }
+        ensures number { digits kinds 0 cells.new ≡ self.0 }
+    {
+        let mut rest = self.0;
+        // By index: what is written through `iter_mut().rev()` no invariant can name.
+        for i in (0..cells.len()).rev() {
+            cells[i] = (rest % kinds as usize) as u32;
+            rest /= kinds as usize;
+        }
+    }
 }
 
 // Where the first cell stands that is none of the kinds, if there is one.

@@ -15,4 +15,5 @@ pub mod Pieces
 pub mod Repeats
 pub mod Telling
 pub mod Trichotomy
+pub mod Diamonds
 pub mod Parts

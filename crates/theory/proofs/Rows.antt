@@ -1,5 +1,5 @@
 -- Rows: copies of a piece side by side, and the middle of a row within a part of it.
-use Rattle.std.proofs.Common.{◌≡◌, ℕ, zero, suc, ◌+◌, ◌*◌, ◌<◌, List, [], ◌∷◌, ◌++◌, length, get_or, sym, ap, ◌∙◌, suc-mul, mul-one, arith, length-append}
+use Rattle.std.proofs.Common.{◌≡◌, ℕ, zero, suc, ◌+◌, ◌*◌, ◌<◌, List, [], ◌∷◌, ◌++◌, length, get_or, sym, ap, ◌∙◌, suc-mul, mul-one, append_assoc, append-nil, arith, length-append}
 use Rattle.std.proofs.lemmas.List.{get_or_append_left, get_or-append-add}
 use Rattle.std.proofs.ByRecursion.{All-append}
 use Rattle.rules.specs.Rules.{Cells, copies, Row, part}
@@ -11,6 +11,11 @@ length-copies (suc n) u = length-append u (copies n u) ∙ omega (arith, length-
 pub cells_copies : (k n : ℕ) (u : List ℕ) → Cells k u → Cells k (copies n u)
 cells_copies k zero u h = tt
 cells_copies k (suc n) u h = All-append (λ c. c < k) u (copies n u) h (cells_copies k n u h)
+
+-- one copy more may stand before the others or behind them
+pub copies_last : (n : ℕ) (u : List ℕ) → copies n u ++ u ≡ u ++ copies n u
+copies_last zero u = sym (append-nil u)
+copies_last (suc n) u = append_assoc u (copies n u) u ∙ ap (λ z. u ++ z) (copies_last n u)
 
 -- n cells of kind 0
 abbrev pub zeros : ℕ → List ℕ

@@ -60,6 +60,15 @@ NoOrphan = (r : Rule) (v o : ℕ) (t x : List ℕ) → Sound r → Back r v o t 
 abbrev pub TwinsOfOrphans : Type 0
 TwinsOfOrphans = (r : Rule) (x : List ℕ) → Sound r → FromNothing r x → (a : Row) × (b : Row) × SameNext r a b × (a.left ≡ b.left) × (a.right ≡ b.right)
 
+-- two rows of one next row that differ in their middles only
+pub record FiniteTwins (r : Rule) (a b : Row) : Type 0 where
+  pub twins : SameNext r a b
+  pub left : a.left ≡ b.left
+  pub right : a.right ≡ b.right
+
+abbrev pub HasFiniteTwins : Rule → Type 0
+HasFiniteTwins r = (a : Row) × (b : Row) × FiniteTwins r a b
+
 -- u stands in a list of pieces
 pub data Among (u : List ℕ) : List (List ℕ) → Type 0 where
   here : {us : List (List ℕ)} → Among u (u ∷ us)
@@ -98,6 +107,10 @@ OneOfThree = (r : Rule) → Sound r → HasOrphan r ⊎ (HasTwins r ⊎ HasWayBa
 abbrev pub ExactlyOne : Type 0
 ExactlyOne = (r : Rule) → Sound r → (HasOrphan r ⊎ (HasTwins r ⊎ HasWayBack r)) × ((HasOrphan r × HasTwins r → ⊥) × ((HasOrphan r × HasWayBack r → ⊥) × (HasTwins r × HasWayBack r → ⊥)))
 
+-- a rule has two rows of one next that differ in their middles only exactly if it has an orphan
+abbrev pub FiniteExactly : Type 0
+FiniteExactly = (r : Rule) → Sound r → HasFiniteTwins r ↔ HasOrphan r
+
 -- what undoes a rule is undone by it
 abbrev pub BothWays : Type 0
 BothWays = (r : Rule) (v o : ℕ) (t : List ℕ) → Sound r → Back r v o t → (x : List ℕ) → Piece r x → length x ≡ v + (r.wide - 1) → next r (next (rule_of r.kinds v t) x) ≡ slice_index x o ∷ []
@@ -111,4 +124,5 @@ pub record Parts : Type 0 where
   pub no_diamond : NoDiamond
   pub one_of_three : OneOfThree
   pub exactly_one : ExactlyOne
+  pub finite_exactly : FiniteExactly
   pub both_ways : BothWays

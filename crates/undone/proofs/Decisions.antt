@@ -1,6 +1,5 @@
 -- What a decision says, put together.
-use Rattle.std.proofs.Common.{◌≡◌, ℕ, ◌+◌, ◌-◌, ◌*◌, ◌/◌, ◌%◌, ◌^◌, ◌<◌, ◌≤◌, min, List, length, get_or, take, drop, sym, refl, ap, ◌∙◌, subst, inl, inr, ⊎_elim, mul-le-mul, pow-suc, arith, length-drop, length-take, get_or-drop, get_or-take, ext_get_or, pow_mono}
-use native.Mathlib.Nat.{pow-le-pow_right, pow-zero}
+use Rattle.std.proofs.Common.{◌≡◌, ℕ, ◌+◌, ◌-◌, ◌*◌, ◌/◌, ◌%◌, ◌^◌, ◌<◌, ◌≤◌, min, List, length, get_or, take, drop, sym, refl, ap, ◌∙◌, subst, inl, inr, ⊎_elim, mul-le-mul, arith, length-drop, length-take, get_or-drop, get_or-take, ext_get_or, pow_mono}
 use Rattle.std.proofs.lemmas.Nat.{div-mul-add, mod-mul-add}
 use Rattle.undone.specs.declared.Decided.{Decided}
 use Rattle.undone.specs.declared.Decided.TheVariants.{NoRule, Few}
@@ -10,6 +9,7 @@ use Rattle.inverse.specs.Inverse.{LeastTold, Endless}
 use Rattle.orphans.specs.Orphans.{words_of}
 use Rattle.pairs.specs.Pairs.{block_at, pair_at}
 use Rattle.rules.specs.Rules.{Rule, rule_of, Sound, Row, blocks_of, digits}
+use Rattle.rules.proofs.Tables.{kinds_le}
 use Rattle.theory.specs.Says.{Least, Back, OneNext, SameNext}
 use Rattle.theory.proofs.Back.{back_same}
 use Rattle.theory.proofs.Parts.{parts}
@@ -77,14 +77,11 @@ pub enough : (r : Rule) → Sound r → words_of r ≤ 524288
 enough r sound =
     let k = r.kinds in
     let b = blocks_of r in
-    let few : k ≤ 16 = omega (arith, pow_one k, pow-le-pow_right {n = k} (omega arith) {i = 1} {j = r.wide - 1} (omega arith)) in
+    let few = kinds_le sound in
     let masks = mul-le-mul {n₁ = b} {m₁ = k} {n₂ = 16} {m₂ = 16} sound.small few in
     let low = mul-le-mul {n₁ = 2 ^ (b / 2)} {m₁ = k} {n₂ = 2 ^ 8} {m₂ = 16} (pow_mono {j = 8} (omega (arith, sound.small))) few in
     let high = mul-le-mul {n₁ = 2 ^ (b - b / 2)} {m₁ = k} {n₂ = 2 ^ 8} {m₂ = 16} (pow_mono {j = 8} (omega (arith, sound.small))) few in
     omega (arith, pow_mono sound.small)
-  where
-    pow_one : (k : ℕ) → k ^ 1 ≡ k
-    pow_one k = rw (pow-suc, pow-zero) (omega arith)
 
 not_few : (r : Rule) (o o' : List ℕ) (d : Decided) → Answer r o o' d → d ≡ Few → ⊥
 not_few r o o' d answer e = subst (Answer r o o') e answer

@@ -8,7 +8,7 @@ push-requires-clause-new g c = at_none c.place.result c.place.ensures c.if-is_no
 
 pub loop-symbol-preserved : goal.loop-symbol-preserved
 loop-symbol-preserved g c =
-    let is = c.follow-next.ensures.is in
+    let is = c.in-Some.ensures.0 in
     elim c.if-is_none.branch [
       | then-is_none w ↦ rw w.queue-is (expanding_push c.loop-symbol.invariant (omega arith) is w.push.ensures)
       | else-is_none w ↦ rw w.queue-is (expanding_skip c.loop-symbol.invariant is (at_some c.place.result c.place.ensures w.if-is_none.ensures))

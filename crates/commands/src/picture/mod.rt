@@ -9,7 +9,7 @@ mod prefixes;
 mod round_trip;
 mod sentence;
 pub mod terminal;
-mod two_rows;
+pub mod two_rows;
 
 use crate::fault::Fault;
 use answers::answer::table_cells;

@@ -1,11 +1,13 @@
 use Rattle.std.proofs.Common.{length, drop, sym, ap, arith, take_at}
-use Rattle.answers.proofs.Sounds.{answered, post_lent}
+use Rattle.answers.proofs.Sounds.{answered, lent}
+use Rattle.undone.specs.Decided.{DecidedPost}
 use Rattle.answers.proofs.workspace.Workspace.decide.Goals as goal
 
 pub returns-clause-post : goal.returns-clause-post
 returns-clause-post c =
+    let g = c.args.given.now in
     let o = c.decide_in.new.out in
-    post_lent (ap length c.as_mut_slice-2.ensures.value) c.as_mut_slice.ensures.value (sym (take_at o (drop (length o) c.args.self.now.out.items) c.args.self.now.out.len (omega arith))) c.decide_in.ensures
+    lent (λ w o o'. DecidedPost g.kinds g.wide g.table.items w o o' c.decide_in.result) (ap length c.as_mut_slice-2.ensures.value) c.as_mut_slice.ensures.value (sym (take_at o (drop (length o) c.args.self.now.out.items) c.args.self.now.out.len (omega arith))) c.decide_in.ensures
 
 pub returns-clause-answer : goal.returns-clause-answer
 returns-clause-answer c = answered c.args.given.now.sound c.args.self.now.enough (returns-clause-post c)
