@@ -67,22 +67,19 @@ extern "C" {
     ) -> u32;
 }
 
+/// What a question about a rule is asked by: kinds, width, table, `out` and words of work, each slice a pointer and its length.
+type Question<T> = unsafe extern "C" fn(u32, u32, *const u32, usize, *mut u32, usize, *mut u32, usize) -> T;
+
+fn ask<T>(question: Question<T>, kinds: u32, wide: u32, table: &[u32], out: &mut [u32], work: &mut [u32]) -> T {
+    let (cells, words) = (out.len(), work.len());
+    // The lengths are those of the slices, none of which overlaps another.
+    unsafe { question(kinds, wide, table.as_ptr(), table.len(), out.as_mut_ptr(), cells, work.as_mut_ptr(), words) }
+}
+
 pub const WORK: usize = 524_288;
 
 pub fn decide(kinds: u32, wide: u32, table: &[u32], out: &mut [u32], work: &mut [u32]) -> Answer {
-    // Each slice is a pointer and its length, and none overlaps another.
-    let told = unsafe {
-        undone_decide(
-            kinds,
-            wide,
-            table.as_ptr(),
-            table.len(),
-            out.as_mut_ptr(),
-            out.len(),
-            work.as_mut_ptr(),
-            work.len(),
-        )
-    };
+    let told = ask(undone_decide, kinds, wide, table, out, work);
     match told.answer {
         1 => Answer::Undone { width: told.width, place: told.place },
         2 => Answer::Orphan { cells: told.orphan },
@@ -99,19 +96,7 @@ pub const FINITE_WORK: usize = 4096;
 pub const FINITE_ROWS: usize = 1024;
 
 pub fn find_twins(kinds: u32, wide: u32, table: &[u32], out: &mut [u32], work: &mut [u32]) -> Finite {
-    // Each slice is a pointer and its length, and none overlaps another.
-    let told = unsafe {
-        undone_finite(
-            kinds,
-            wide,
-            table.as_ptr(),
-            table.len(),
-            out.as_mut_ptr(),
-            out.len(),
-            work.as_mut_ptr(),
-            work.len(),
-        )
-    };
+    let told = ask(undone_finite, kinds, wide, table, out, work);
     match told.answer {
         1 => Finite::Twins { left: told.left, mid: told.middle, right: told.right },
         2 => Finite::NoTwins,
