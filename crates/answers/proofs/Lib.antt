@@ -1,1 +1,2 @@
 pub mod Sounds
+pub mod Told

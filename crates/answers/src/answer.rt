@@ -1,7 +1,7 @@
 // The answer lines of rules.
-ghost use Rattle.std.specs.Prelude.{◌≡◌, ◌^◌, ◌++◌, take, IfOk, string_bytes, OnOk};
-ghost use Rattle.answers.specs.Answers.{answer_text, row_words, spaced, twins_words, undone_words};
-ghost use Rattle.answers.specs.FiniteAnswers.{finite_text};
+ghost use Rattle.std.specs.Prelude.{◌≡◌, ◌^◌, ◌++◌, take, IfOk, MatchResult, string_bytes};
+ghost use Rattle.answers.specs.Answers.{answer_cells, answer_text, row_cells, row_words, spaced, twins_cells, twins_words, undone_words, Untold};
+ghost use Rattle.answers.specs.FiniteAnswers.{finite_cells, finite_text};
 ghost use Rattle.answers.specs.Endless.{row_of};
 
 use crate::endless::{EndlessRow, split_front, two_rows};
@@ -18,7 +18,9 @@ pub fn answer_line(
     decided: Decided,
     out: &[u32],
 ) -> Result<String, NoText>
-    ensures { IfOk result (λ s. string_bytes s ≡ answer_text kinds out.now decided) }
+    ensures { MatchResult result
+        (λ s. string_bytes s ≡ answer_text kinds out.now decided)
+        (Untold (answer_cells kinds out.now decided)) }
 {
     match decided {
         Decided::Undone(width, place) => {
@@ -47,7 +49,9 @@ pub fn answer_line(
 
 // The line of two rows that differ at finitely many places, which stand first in `out`, or why there are none.
 pub fn finite_line(heap: Global, finite: Finite, out: &[u32]) -> Result<String, NoText>
-    ensures { IfOk result (λ s. string_bytes s ≡ finite_text out.now finite) }
+    ensures { MatchResult result
+        (λ s. string_bytes s ≡ finite_text out.now finite)
+        (Untold (finite_cells out.now finite)) }
 {
     match finite {
         Finite::Twins(left, mid, right) => twins_line(heap, Lengths { left, mid, right }, out),
@@ -60,7 +64,9 @@ pub fn finite_line(heap: Global, finite: Finite, out: &[u32]) -> Result<String, 
 
 // Two rows that stand first in `out`.
 fn twins_line(heap: Global, lengths: Lengths, out: &[u32]) -> Result<String, NoText>
-    ensures { IfOk result (λ s. string_bytes s ≡ twins_words lengths.left lengths.mid lengths.right out.now) }
+    ensures { MatchResult result
+        (λ s. string_bytes s ≡ twins_words lengths.left lengths.mid lengths.right out.now)
+        (Untold (twins_cells lengths.left lengths.mid lengths.right out.now)) }
 {
     let mut line = String::from_str(heap, "twins")?;
     let (first, second) = two_rows(lengths, out);
@@ -87,7 +93,9 @@ pub fn table_cells(kinds: u32, width: u32, out: &[u32]) -> &[u32]
 }
 
 fn add_row(line: &mut String, row: EndlessRow) -> Result<(), NoText>
-    ensures { OnOk result (string_bytes line.new ≡ string_bytes line.old ++ row_words (row_of row.entry)) }
+    ensures { MatchResult result
+        (λ _. string_bytes line.new ≡ string_bytes line.old ++ row_words (row_of row.entry))
+        (Untold (row_cells (row_of row.entry))) }
 {
     add_word(line, row.left)?;
     add_word(line, row.mid)?;
@@ -97,7 +105,9 @@ fn add_row(line: &mut String, row: EndlessRow) -> Result<(), NoText>
 
 // Adds the digits of cells, with a space before them.
 fn add_word(line: &mut String, cells: &[u32]) -> Result<(), NoText>
-    ensures { OnOk result (string_bytes line.new ≡ string_bytes line.old ++ spaced cells.now) }
+    ensures { MatchResult result
+        (λ _. string_bytes line.new ≡ string_bytes line.old ++ spaced cells.now)
+        (Untold cells.now) }
 {
     line.push(' ')?;
     write_cells(line, Alphabet::Digits, cells)?;

@@ -67,6 +67,7 @@ impl GivenRule {
         let mut work = vec![in heap; 0; WORK]?;
         Ok(self.decide_in(out, work.as_mut_slice()))
     }
+
     // Finds two rows that differ at finitely many places and have one next row, in words of work that are lent; the rows stand first in
     // `out`.
     pub fn find_twins_in(&self, out: &mut [u32], work: &mut [u32]) -> Finite

@@ -2,16 +2,21 @@
 ghost use Rattle.std.specs.Prelude.{◌≡◌, ◌≤◌, length, IfOk, vec_len};
 ghost use Rattle.finite.specs.Told.{Answer, FinitePost};
 ghost use Rattle.rules.specs.Rules.{rule_of};
+ghost use Rattle.answers.specs.FiniteAnswers.{FiniteLine};
 
+use crate::answer::finite_line;
+use crate::answers_rules::AnswersRules;
 use crate::given::GivenRule;
 use finite::{Finite, ROWS, WORK};
 use std::alloc::{AllocError, Global};
+use text::print::NoText;
 
 // Room for the rows of any rule, and for the work of any search.
 #[derive(Drop)]
 pub struct TwinsWorkspace {
     out: Vec<u32>,
     work: Vec<u32>,
+    ghost room: { length out.items ≡ 1024 },
     ghost enough: { 4096 ≤ length work.items },
 }
 
@@ -37,5 +42,14 @@ impl TwinsWorkspace {
         ensures { result.now ≡ self.now.out.items }
     {
         &self.out
+    }
+}
+
+impl AnswersRules for TwinsWorkspace {
+    ghost says = { FiniteLine };
+
+    fn answer(&mut self, heap: Global, given: &GivenRule) -> Result<String, NoText> {
+        let finite = self.find(given);
+        finite_line(heap, finite, self.told())
     }
 }

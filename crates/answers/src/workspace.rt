@@ -2,10 +2,14 @@
 ghost use Rattle.std.specs.Prelude.{◌≡◌, ◌≤◌, length, IfOk, vec_len};
 ghost use Rattle.undone.specs.Decided.{Answer, DecidedPost};
 ghost use Rattle.rules.specs.Rules.{rule_of};
+ghost use Rattle.answers.specs.Answers.{AnswerLine};
 
+use crate::answer::answer_line;
+use crate::answers_rules::AnswersRules;
 use crate::given::GivenRule;
 use rules::rule::MOST_WINDOWS;
 use std::alloc::{AllocError, Global};
+use text::print::NoText;
 use undone::{Decided, WORK};
 
 // Room for what is told of any rule whose way back can be run, and for the work of any decision.
@@ -13,6 +17,7 @@ use undone::{Decided, WORK};
 pub struct Workspace {
     out: Vec<u32>,
     work: Vec<u32>,
+    ghost room: { length out.items ≡ 262144 },
     ghost enough: { 524288 ≤ length work.items },
 }
 
@@ -45,5 +50,14 @@ impl Workspace {
         ensures { result.items ≡ self.out.items }
     {
         self.out
+    }
+}
+
+impl AnswersRules for Workspace {
+    ghost says = { AnswerLine };
+
+    fn answer(&mut self, heap: Global, given: &GivenRule) -> Result<String, NoText> {
+        let decided = self.decide(given);
+        answer_line(heap, given.kinds(), decided, self.told())
     }
 }

@@ -3,7 +3,7 @@ ghost use Rattle.std.specs.Prelude.{◌<◌};
 
 use crate::compared::Rule;
 use crate::digits::cells_of;
-use commands::random::Random;
+use rows::random::Random;
 use std::alloc::{AllocError, Global};
 
 // Kinds and widths, all that are allowed of two to four kinds.

@@ -1,9 +1,9 @@
 #![tactic(auto)]
 
 // Decides whether rules can be run backwards.
-use commands::decide::decide;
-use commands::fault::Fault;
-use commands::programs::carry_out;
+use faults::fault::Fault;
+use programs::carry_out::carry_out;
+use programs::decide::decide;
 use std::process::ExitCode;
 
 fn main(rt: HostRuntime) -> Result<ExitCode, Fault> {

@@ -1,11 +1,11 @@
 #![tactic(auto)]
 
 // Answers questions about rules, each a command of its own.
-use commands::fault::Fault;
-use commands::programs::carry_out;
-use questions::explore::explore;
+use faults::fault::Fault;
+use programs::carry_out::carry_out;
+use programs::explore::explore;
 use std::process::ExitCode;
 
 fn main(rt: HostRuntime) -> Result<ExitCode, Fault> {
-    carry_out(&rt, "explore", explore)
+    carry_out(&rt, "undone", explore)
 }

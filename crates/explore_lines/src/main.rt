@@ -1,9 +1,9 @@
 #![tactic(auto)]
 
 // Carries out command lines of `explore` from standard input, so that pictures, help and refusals are compared as well.
-use commands::fault::Fault;
-use commands::programs::carry_out_lines;
-use questions::explore::explore;
+use faults::fault::Fault;
+use programs::carry_out::carry_out_lines;
+use programs::explore::explore;
 
 fn main(rt: HostRuntime) -> Result<(), Fault> {
     carry_out_lines(&rt, "explore ", explore_words)
@@ -13,6 +13,6 @@ fn main(rt: HostRuntime) -> Result<(), Fault> {
 fn explore_words(rt: &HostRuntime, words: &[String]) -> Result<(), Fault> {
     match words {
         [_, args @ ..] => explore(rt, args),
-        [] => Err(Fault::FewArguments),
+        [] => Ok(()),
     }
 }

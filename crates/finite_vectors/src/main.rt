@@ -6,13 +6,12 @@ use answers::answer::finite_line;
 use answers::endless::{EndlessRow, two_rows};
 use answers::given::GivenRule;
 use answers::twins_workspace::TwinsWorkspace;
-use commands::fault::Fault;
-use commands::rule_lines::AnswersRules;
+use faults::fault::Fault;
 use finite::Finite;
 use rules::local::LocalRule;
 use std::alloc::Global;
 use twins::Lengths;
-use vector_lines::{answer_vectors, have_one_next};
+use vector_lines::{AnswersVectors, answer_vectors, have_one_next};
 
 fn main(rt: HostRuntime) -> Result<(), Fault> {
     answer_vectors(&rt, &mut MiddleLengths(TwinsWorkspace::new(rt.alloc())?))
@@ -22,7 +21,7 @@ fn main(rt: HostRuntime) -> Result<(), Fault> {
 #[derive(Drop)]
 struct MiddleLengths(TwinsWorkspace);
 
-impl AnswersRules for MiddleLengths {
+impl AnswersVectors for MiddleLengths {
     fn answer(&mut self, heap: Global, given: &GivenRule) -> Result<String, Fault> {
         match self.0.find(given) {
             Finite::Twins(left, mid, right) => {

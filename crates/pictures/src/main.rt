@@ -2,10 +2,10 @@
 
 // Draws the files of the folder `data`, in which it is run, again by the commands, and compares them. What it draws stands in the
 // folder `drawn`, from where it can be moved to `data` where a change is meant.
-use commands::decide::decide;
-use commands::fault::Fault;
-use commands::run::run;
-use commands::words::split_words;
+use faults::fault::Fault;
+use programs::decide::decide;
+use programs::run::run;
+use reading::words::split_words;
 use std::fs;
 
 // The name of each file, and the rule that it is the plaque of.
@@ -32,8 +32,8 @@ const PLAQUES: [(&str, &str); 7] = [
 const DIAGRAMS: [(&str, &str, &str); 3] = [
     (
         "elementary-rule-110",
-        "2 3 01110110",
-        "--random 240 --steps 120",
+        "wolfram 110",
+        "--single --cells 241 --centre --steps 120",
     ),
     (
         "4-kinds-back",

@@ -1,64 +1,45 @@
-// The command `finite`: two rows that differ at finitely many places and have one next row, and a picture of them.
-ghost use Rattle.std.specs.Prelude.{◌≡◌, IfOk, string_bytes};
+// A rule in words, and two rows of it that differ at finitely many places and have one next row.
+ghost use Rattle.std.specs.Prelude.{◌≡◌, map, string_bytes, MatchResult};
 ghost use Rattle.answers.specs.FiniteAnswers.{finite_text};
-ghost use Rattle.finite.specs.Told.{Answer};
-ghost use Rattle.finite.specs.declared.Finite.{Finite};
+ghost use Rattle.questions.specs.Answered.{IsFound, Unanswered};
+ghost use Rattle.reading.specs.Words.{Means};
 ghost use Rattle.rules.specs.Rules.{rule_of};
 
 use answers::answer::finite_line;
-use answers::endless::two_rows;
 use answers::given::GivenRule;
 use answers::twins_workspace::TwinsWorkspace;
-use commands::fault::Fault;
-use commands::picture::terminal::Terminal;
-use commands::picture::two_rows::draw_between_blocks;
-use commands::rule_lines::{AnswersRules, answer_lines};
-use commands::words::rule_of_words;
+use faults::fault::Fault;
 use finite::Finite;
+use reading::rules_in_words::parse_rule;
 use std::alloc::Global;
-use twins::Lengths;
 
-// Answers one rule, or those of standard input.
-pub fn find_finite(rt: &HostRuntime, words: &[String]) -> Result<(), Fault> {
-    let mut workspace = FiniteAnswers(TwinsWorkspace::new(rt.alloc())?);
-    match words {
-        [word] if word.as_str() == "-" => answer_lines(rt, &mut workspace),
-        _ => find_one(rt, words, &mut workspace.0),
-    }
-}
-
-// Answers one rule, and draws the rows.
-fn find_one(
-    rt: &HostRuntime,
-    words: &[String],
-    workspace: &mut TwinsWorkspace,
-) -> Result<(), Fault> {
-    let given = rule_of_words(rt.alloc(), words)?;
-    let finite = workspace.find(&given);
-    let answer = finite_line(rt.alloc(), finite, workspace.told())?;
-    println!(rt; "{answer}")?;
-    match finite {
-        Finite::Twins(left, mid, right) => {
-            println!(rt)?;
-            let (first, second) = two_rows(Lengths { left, mid, right }, workspace.told());
-            let mut terminal = Terminal { rt };
-            draw_between_blocks(rt.alloc(), &mut terminal, given.rule().local, first, second)
-        }
-        _ => Ok(()),
-    }
-}
-
-// Rules that are answered by their twins.
+/// A rule, what was found of it, whose rows stand first in the workspace's cells, and the line that tells it.
 #[derive(Drop)]
-struct FiniteAnswers(TwinsWorkspace);
+pub struct FoundTwins {
+    pub given: GivenRule,
+    pub finite: Finite,
+    pub workspace: TwinsWorkspace,
+    pub line: String,
+}
 
-impl AnswersRules for FiniteAnswers {
-    fn answer(&mut self, heap: Global, given: &GivenRule) -> Result<String, Fault>
-        ensures { IfOk result (λ s. (d : Finite)
-            × Answer (rule_of given.now.kinds given.now.wide given.now.table.items) self.old.0.out.items self.new.0.out.items d
-            × (string_bytes s ≡ finite_text self.new.0.out.items d)) }
-    {
-        let finite = self.0.find(given);
-        Ok(finite_line(heap, finite, self.0.told())?)
-    }
+/// Finds two rows of the rule that the words mean.
+pub fn find_words(heap: Global, words: &[String]) -> Result<FoundTwins, Fault>
+    ensures { MatchResult result
+        (λ f. Means (map string_bytes words.now) (rule_of f.given.kinds f.given.wide f.given.table.items)
+        × IsFound (rule_of f.given.kinds f.given.wide f.given.table.items) f.workspace.out.items f.finite
+        × (string_bytes f.line ≡ finite_text f.workspace.out.items f.finite))
+        (Unanswered (map string_bytes words.now)) }
+{
+    let given = parse_rule(heap, words).map_err(Fault::NoRule)?;
+    let mut workspace = TwinsWorkspace::new(heap)?;
+    let finite = workspace.find(&given);
+    let Ok(line) = finite_line(heap, finite, workspace.told()) else {
+        return Err(Fault::Memory);
+    };
+    Ok(FoundTwins {
+        given,
+        finite,
+        workspace,
+        line,
+    })
 }

@@ -1,6 +1,7 @@
 #![tactic(auto)]
 
-// What the program `explore` does: the commands that ask more of a rule than whether it can be run backwards.
-pub mod arguments;
-pub mod explore;
+// Questions about rules in words: from the words to the line that is printed.
+pub mod answer;
+pub mod decide;
 pub mod finite_twins;
+pub mod rule_text;

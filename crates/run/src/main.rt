@@ -1,9 +1,9 @@
 #![tactic(auto)]
 
 // Runs a rule, or a way back, on a row in a ring.
-use commands::fault::Fault;
-use commands::programs::carry_out;
-use commands::run::run;
+use faults::fault::Fault;
+use programs::carry_out::carry_out;
+use programs::run::run;
 use std::process::ExitCode;
 
 fn main(rt: HostRuntime) -> Result<ExitCode, Fault> {

@@ -9,15 +9,22 @@ ghost use Rattle.answers.specs.Endless.{row_of};
 
 use answers::endless::EndlessRow;
 use answers::given::GivenRule;
-use commands::cells::{next_cells, read_cells};
-use commands::fault::Fault;
-use commands::options::Name;
-use commands::rule_lines::AnswersRules;
+use faults::fault::Fault;
+use faults::name::Name;
+use faults::no_words::NoWords;
+use reading::cells::read_cells;
+use reading::words::number;
+use rows::next::next_cells;
 use rules::local::LocalRule;
 use std::alloc::Global;
 
+/// What answers the rules of a file, as the file has the answers.
+pub trait AnswersVectors {
+    fn answer(&mut self, heap: Global, given: &GivenRule) -> Result<String, Fault>;
+}
+
 // Prints each line of standard input, and behind it the answer to the rule that it begins with.
-pub fn answer_vectors<A: AnswersRules>(rt: &HostRuntime, answers: &mut A) -> Result<(), Fault> {
+pub fn answer_vectors<A: AnswersVectors>(rt: &HostRuntime, answers: &mut A) -> Result<(), Fault> {
     for line in rt.lines(rt.alloc()) {
         let line = line?;
         let answer = answer_line(rt.alloc(), line.as_str(), answers)?;
@@ -27,19 +34,18 @@ pub fn answer_vectors<A: AnswersRules>(rt: &HostRuntime, answers: &mut A) -> Res
 }
 
 // The answer to a line of kinds, width and table. What comes behind these is not read.
-fn answer_line<A: AnswersRules>(
+fn answer_line<A: AnswersVectors>(
     heap: Global,
     line: &str,
     answers: &mut A,
 ) -> Result<String, Fault> {
     let mut words = line.split_whitespace();
     let (Some(kinds), Some(wide), Some(cells)) = (words.next(), words.next(), words.next()) else {
-        return Err(Fault::FewArguments);
+        return Err(Fault::NoRule(NoWords::Few(String::from_str(heap, line)?)));
     };
-    let (Ok(kinds), Ok(wide)) = (kinds.parse::<u32>(), wide.parse::<u32>()) else {
-        return Err(Fault::FewArguments);
-    };
-    let table = read_cells(heap, Name::Table, kinds, cells)?;
+    let kinds = number(heap, Name::Kinds, kinds).map_err(Fault::NoRule)?;
+    let wide = number(heap, Name::Width, wide).map_err(Fault::NoRule)?;
+    let table = read_cells(heap, Name::Table, kinds, cells).map_err(Fault::Cells)?;
     match GivenRule::new(kinds, wide, table) {
         Ok(given) => answers.answer(heap, &given),
         Err(_) => Ok(String::from_str(heap, "no rule")?),
@@ -69,5 +75,5 @@ fn next_of(heap: Global, rule: LocalRule, row: EndlessRow, copies: usize) -> Res
     ensures { IfOk result (λ v. v.items ≡ next (the_rule rule.entry) (part (row_of row.entry) copies)) }
 {
     let piece = row.piece(heap, copies)?;
-    next_cells(heap, rule, piece.as_slice())
+    Ok(next_cells(heap, rule, piece.as_slice())?)
 }

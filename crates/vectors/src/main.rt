@@ -6,13 +6,12 @@ use answers::answer::answer_line;
 use answers::endless::{EndlessRow, two_rows};
 use answers::given::GivenRule;
 use answers::workspace::Workspace;
-use commands::fault::Fault;
-use commands::rule_lines::AnswersRules;
+use faults::fault::Fault;
 use rules::local::LocalRule;
 use std::alloc::Global;
 use twins::Lengths;
 use undone::Decided;
-use vector_lines::{answer_vectors, have_one_next};
+use vector_lines::{AnswersVectors, answer_vectors, have_one_next};
 
 fn main(rt: HostRuntime) -> Result<(), Fault> {
     answer_vectors(&rt, &mut Decisions(Workspace::new(rt.alloc())?))
@@ -22,7 +21,7 @@ fn main(rt: HostRuntime) -> Result<(), Fault> {
 #[derive(Drop)]
 struct Decisions(Workspace);
 
-impl AnswersRules for Decisions {
+impl AnswersVectors for Decisions {
     fn answer(&mut self, heap: Global, given: &GivenRule) -> Result<String, Fault> {
         match self.0.decide(given) {
             Decided::Twins(left, mid, right) => {

@@ -1,0 +1,2 @@
+-- Questions about rules in words: the definitions that the contracts cite.
+pub mod Answered

@@ -1,0 +1,3 @@
+pub mod One
+pub mod Refused
+pub mod Shapes

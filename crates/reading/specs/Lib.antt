@@ -1,0 +1,2 @@
+-- Rules in words: the definitions that the contracts cite.
+pub mod Words

@@ -1,0 +1,2 @@
+-- Rows that own their cells: the definitions that the contracts cite.
+pub mod Random

@@ -1,0 +1,7 @@
+pub mod Asked
+pub mod Backs
+pub mod Firsts
+pub mod Later
+pub mod Places
+pub mod SameKinds
+pub mod WaysBack

@@ -1,0 +1,24 @@
+-- All that runs by the same words has the same kinds.
+use Rattle.std.proofs.Common.{◌≡◌, ℕ, Bool, List, sym, ap, ◌∙◌, subst, inl, inr, ⊎_elim}
+use Rattle.faults.specs.declared.fault.Fault.{Fault}
+use Rattle.rules.specs.Rules.{Rule}
+use Rattle.reading.proofs.One.{one}
+use Rattle.running.specs.Asked.{NotAsked}
+use Rattle.running.specs.declared.run.Mode.{Mode}
+use Rattle.running.specs.declared.run.Mode.TheVariants.{Forwards, Backwards, WayBack}
+use Rattle.running.specs.declared.run.Run.{Run}
+use Rattle.running.specs.declared.start.Start.{Start}
+use Rattle.running.specs.Runs.{Runs, RunsAs}
+use Rattle.running.specs.Starts.{FirstRow, NoFirstRow}
+
+same_kinds : (m : Mode) (c : Bool) (ws : List (List ℕ)) (n p n' p' : ℕ) (r r' : Rule) → RunsAs m c ws n r p → RunsAs m c ws n' r' p' → r.kinds ≡ r'.kinds
+same_kinds Forwards c ws n p n' p' r r' runs runs' = ap (λ x. x.kinds) (one ws r r' runs.0.0 runs'.0.0)
+same_kinds Backwards c ws n p n' p' r r' (q, o, means, back, place) (q', o', means', back', place') =
+    back.kinds ∙ ap (λ x. x.kinds) (one ws q q' means.0 means'.0) ∙ sym back'.kinds
+same_kinds (WayBack o) c ws n p n' p' r r' runs runs' = ap (λ x. x.kinds) (one ws r r' runs.0.0 runs'.0.0)
+
+-- where there is no first row of the kinds that run, no rows are asked for
+pub not_asked : (ws : List (List ℕ)) (run : Run) (start : Start) (n : ℕ) (r : Rule) (p : ℕ) (e : Fault) → Runs ws run n r p → NoFirstRow r.kinds start e → NotAsked ws run start e
+not_asked ws run start n r p e runs h =
+    ⊎_elim (λ failure. inl failure)
+    (λ none. inr (λ us a. none a.first (subst (λ k. FirstRow k start a.first) (same_kinds run.mode run.centre ws _ _ _ _ a.rule r a.runs runs) a.starts))) h

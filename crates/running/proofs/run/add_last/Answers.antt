@@ -1,0 +1,26 @@
+use Rattle.std.proofs.Common.{◌≡◌, ◌≤◌, ◌+◌, [], ◌∷◌, ap, sym, subst, ◌∙◌, arith}
+use Rattle.std.proofs.lemmas.Result.{on_ok_weaker}
+use Rattle.ring.specs.Ring.{rings}
+use Rattle.rules.specs.Local.{the_rule}
+use Rattle.running.proofs.Later.{rings_later}
+use Rattle.running.proofs.run.add_last.Goals as goal
+
+pub loop-done-preserved : goal.loop-done-preserved
+loop-done-preserved g c =
+    let r = the_rule c.args.rule.rule in
+    let o = c.args.rule.place in
+    let before = c.loop-done.invariant in
+    let within : c.loop-done.done + c.min-seconds.result ≤ c.args.steps = omega arith in
+    let row = c.in_ok-steps.ensures ∙ ap (rings r o c.min-seconds.result) before.1 ∙ sym (rings_later r o c.loop-done.done c.min-seconds.result c.args.row.now.row.items) in
+    (within, row, g.met.R.Rows.behind _ _ _ [] [] before.2 c.in_ok-passed.ensures)
+
+pub returns : goal.returns
+returns g c =
+    let u = c.args.row.now.row.items in
+    let before = c.loop-done.invariant in
+    let over : c.loop-done.done ≡ c.args.steps = omega arith in
+    let row : c.cells-2.result.now ≡ rings (the_rule c.args.rule.rule) c.args.rule.place c.args.steps u =
+    c.cells-2.ensures ∙ before.1 ∙ ap (λ n. rings (the_rule c.args.rule.rule) c.args.rule.place n u) over
+    in
+    on_ok_weaker c.add.result
+    (λ added. subst (λ w. g.R.Rows.grows c.args.rows.now (w ∷ []) c.add.new.self) row (g.met.R.Rows.behind _ _ _ [] (c.cells-2.result.now ∷ []) before.2 added)) c.add.ensures

@@ -1,0 +1,47 @@
+// From words to rows.
+ghost use Rattle.std.specs.Prelude.{map, string_bytes, MatchResult, OnOk};
+ghost use Rattle.running.specs.Asked.{Asked, NotAsked, rows_of};
+
+use crate::find::find_table;
+use crate::output::Rows;
+use crate::ready::ReadyRun;
+use crate::run::{Run, add_each, add_last};
+use crate::start::{Start, first_row};
+use faults::fault::Fault;
+use rows::ring_row::RingRow;
+use std::alloc::Global;
+
+/// What the words ask to be run so, from the row at the start. Nothing is run yet.
+pub fn prepare(heap: Global, words: &[String], run: &Run, start: &Start) -> Result<ReadyRun, Fault>
+    ensures { MatchResult result
+        (λ ready. Asked (map string_bytes words.now) run.now start.now (rows_of ready))
+        (NotAsked (map string_bytes words.now) run.now start.now) }
+{
+    let table = find_table(heap, words, run)?;
+    let row = first_row(heap, table.kinds(), start)?;
+    Ok(ReadyRun {
+        table,
+        row,
+        steps: run.steps,
+        last: run.last,
+    })
+}
+
+/// Runs what is ready, and adds its rows, the oldest first.
+pub fn run_rows<R: Rows>(ready: ReadyRun, rows: &mut R) -> Result<(), Fault>
+    ensures { OnOk result (R.grows rows.old (rows_of ready) rows.new) }
+{
+    let cells = ready.cells();
+    let ReadyRun {
+        table,
+        row,
+        steps,
+        last,
+    } = ready;
+    let rule = table.ring_rule(cells);
+    let mut row = RingRow::new(row)?;
+    if last {
+        return add_last(rule, &mut row, steps, rows);
+    }
+    add_each(rule, &mut row, steps, rows)
+}
