@@ -14,8 +14,8 @@ finite_text o NoTwins = codes "none"
 finite_text o NoRule = codes "no rule"
 finite_text o Few = codes "few"
 
--- the cells that stand in that line
-abbrev pub finite_cells : List ℕ → Finite → List ℕ
+-- the cells that stand in that line, word by word
+abbrev pub finite_cells : List ℕ → Finite → List (List ℕ)
 finite_cells o (Twins l m n) = twins_cells l m n o
 finite_cells o (Full n) = []
 finite_cells o NoTwins = []

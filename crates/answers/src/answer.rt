@@ -1,6 +1,6 @@
 // The answer lines of rules.
-ghost use Rattle.std.specs.Prelude.{◌≡◌, ◌^◌, ◌++◌, take, IfOk, MatchResult, string_bytes};
-ghost use Rattle.answers.specs.Answers.{answer_cells, answer_text, row_cells, row_words, spaced, twins_cells, twins_words, undone_words, Untold};
+ghost use Rattle.std.specs.Prelude.{◌≡◌, ◌^◌, [], ◌∷◌, ◌++◌, take, IfOk, MatchResult, string_bytes};
+ghost use Rattle.answers.specs.Answers.{answer_cells, answer_text, row_cells, row_words, spaced, twins_cells, twins_words, undone_words, HaveDigits, Untold};
 ghost use Rattle.answers.specs.FiniteAnswers.{finite_cells, finite_text};
 ghost use Rattle.answers.specs.Endless.{row_of};
 
@@ -19,7 +19,7 @@ pub fn answer_line(
     out: &[u32],
 ) -> Result<String, NoText>
     ensures { MatchResult result
-        (λ s. string_bytes s ≡ answer_text kinds out.now decided)
+        (λ s. HaveDigits (answer_cells kinds out.now decided) × (string_bytes s ≡ answer_text kinds out.now decided))
         (Untold (answer_cells kinds out.now decided)) }
 {
     match decided {
@@ -50,7 +50,7 @@ pub fn answer_line(
 // The line of two rows that differ at finitely many places, which stand first in `out`, or why there are none.
 pub fn finite_line(heap: Global, finite: Finite, out: &[u32]) -> Result<String, NoText>
     ensures { MatchResult result
-        (λ s. string_bytes s ≡ finite_text out.now finite)
+        (λ s. HaveDigits (finite_cells out.now finite) × (string_bytes s ≡ finite_text out.now finite))
         (Untold (finite_cells out.now finite)) }
 {
     match finite {
@@ -65,7 +65,7 @@ pub fn finite_line(heap: Global, finite: Finite, out: &[u32]) -> Result<String, 
 // Two rows that stand first in `out`.
 fn twins_line(heap: Global, lengths: Lengths, out: &[u32]) -> Result<String, NoText>
     ensures { MatchResult result
-        (λ s. string_bytes s ≡ twins_words lengths.left lengths.mid lengths.right out.now)
+        (λ s. HaveDigits (twins_cells lengths.left lengths.mid lengths.right out.now) × (string_bytes s ≡ twins_words lengths.left lengths.mid lengths.right out.now))
         (Untold (twins_cells lengths.left lengths.mid lengths.right out.now)) }
 {
     let mut line = String::from_str(heap, "twins")?;
@@ -94,7 +94,7 @@ pub fn table_cells(kinds: u32, width: u32, out: &[u32]) -> &[u32]
 
 fn add_row(line: &mut String, row: EndlessRow) -> Result<(), NoText>
     ensures { MatchResult result
-        (λ _. string_bytes line.new ≡ string_bytes line.old ++ row_words (row_of row.entry))
+        (λ _. HaveDigits (row_cells (row_of row.entry)) × (string_bytes line.new ≡ string_bytes line.old ++ row_words (row_of row.entry)))
         (Untold (row_cells (row_of row.entry))) }
 {
     add_word(line, row.left)?;
@@ -106,8 +106,8 @@ fn add_row(line: &mut String, row: EndlessRow) -> Result<(), NoText>
 // Adds the digits of cells, with a space before them.
 fn add_word(line: &mut String, cells: &[u32]) -> Result<(), NoText>
     ensures { MatchResult result
-        (λ _. string_bytes line.new ≡ string_bytes line.old ++ spaced cells.now)
-        (Untold cells.now) }
+        (λ _. HaveDigits (cells.now ∷ []) × (string_bytes line.new ≡ string_bytes line.old ++ spaced cells.now))
+        (Untold (cells.now ∷ [])) }
 {
     line.push(' ')?;
     write_cells(line, Alphabet::Digits, cells)?;

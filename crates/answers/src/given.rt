@@ -1,5 +1,5 @@
 // Rules with tables of their own, and their decisions.
-ghost use Rattle.std.specs.Prelude.{◌≡◌, true, length, is_ok, IfOk, MatchResult};
+ghost use Rattle.std.specs.Prelude.{◌≡◌, true, length, is_ok, MatchResult};
 ghost use Rattle.rules.specs.Checks.{Unfit};
 ghost use Rattle.std.proofs.Props.{props};
 ghost use Rattle.finite.specs.Told.{FinitePost};
@@ -62,7 +62,9 @@ impl GivenRule {
 
     // Decides the rule in words of work that are made for it and let go.
     pub fn decide_once(&self, heap: Global, out: &mut [u32]) -> Result<Decided, AllocError>
-        ensures { IfOk result (λ d. Answer (rule_of self.now.kinds self.now.wide self.now.table.items) out.old out.new d) }
+        ensures { MatchResult result
+            (λ d. Answer (rule_of self.now.kinds self.now.wide self.now.table.items) out.old out.new d)
+            (λ _. out.new ≡ out.old) }
     {
         let mut work = vec![in heap; 0; WORK]?;
         Ok(self.decide_in(out, work.as_mut_slice()))

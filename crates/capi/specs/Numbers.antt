@@ -7,10 +7,10 @@ use Rattle.finite.specs.declared.Finite.TheVariants.{Twins as finite_twins, Full
 use Rattle.ring.specs.declared.Held.{Held}
 use Rattle.ring.specs.declared.Held.TheVariants.{Row, Spare}
 use Rattle.ring.specs.declared.NoRing.{NoRing}
-use Rattle.ring.specs.Seconds.{NotRun, Ran}
+use Rattle.ring.specs.Seconds.{IsRing, NotRun, Ran}
 use Rattle.rules.specs.Checks.{Unfit}
 use Rattle.rules.specs.declared.rule.NoRule.{NoRule}
-use Rattle.rules.specs.Rules.{rule_of}
+use Rattle.rules.specs.Rules.{rule_of, Runnable}
 use Rattle.undone.specs.declared.Decided.{Decided}
 use Rattle.undone.specs.declared.Decided.TheVariants.{Undone, Twins, Orphan, UndoneFull, TwinsFull, OrphanFull, NoRule as no_rule, Few}
 
@@ -45,10 +45,11 @@ abbrev pub held_number : Held → ℕ
 held_number Row = 0
 held_number Spare = 1
 
--- what the number n says of s seconds from the row u, with spare cells w, which then are u' and w': where the last row stands;
--- or 2 that the table does not fit, or 3 that the row cannot be run, with nothing written
+-- what the number n says of s seconds from the row u, with spare cells w, which then are u' and w': where the last row stands,
+-- of a table that is run and a row in a ring; or 2 that the table does not fit, or 3 that it does and the row is none in a
+-- ring, with nothing written
 abbrev pub Stepped : ℕ → ℕ → List ℕ → ℕ → ℕ → List ℕ → List ℕ → List ℕ → List ℕ → ℕ → Type 0
 Stepped k m t o s u w u' w' n =
-    ((h : Held) × (n ≡ held_number h) × Ran (rule_of k m t) o s u w u' w' h)
+    ((h : Held) × (n ≡ held_number h) × Runnable (rule_of k m t) × IsRing (rule_of k m t) u (length w) × Ran (rule_of k m t) o s u w u' w' h)
     ⊎ (((n ≡ 2) × ((e : NoRule) × Unfit 1 262144 k m t e) × (u' ≡ u) × (w' ≡ w))
-    ⊎ ((n ≡ 3) × ((e : NoRing) × NotRun (rule_of k m t) u (length w) e) × (u' ≡ u) × (w' ≡ w)))
+    ⊎ ((n ≡ 3) × Runnable (rule_of k m t) × ((e : NoRing) × NotRun (rule_of k m t) u (length w) e) × (u' ≡ u) × (w' ≡ w)))

@@ -1,7 +1,7 @@
 // Why a command is not carried out.
 ghost use Rattle.std.specs.Prelude.{◌≡◌, Decides};
-ghost use Rattle.faults.specs.Failure.{Failure};
-ghost use Rattle.faults.specs.declared.fault.Fault.TheVariants.{Memory as no_memory, Text as no_text, Ring as no_ring, Drawing as no_drawing};
+ghost use Rattle.faults.specs.Failure.{Failure, NextGives};
+ghost use Rattle.faults.specs.declared.fault.Fault.TheVariants.{Memory as no_memory, Text as no_text, Ring as no_ring, Drawing as no_drawing, Output as no_output};
 
 use crate::name::Name;
 use crate::no_words::{BadCells, NoWords};
@@ -75,15 +75,21 @@ impl Fault {
     pub fn is_failure(&self) -> bool
         ensures { Decides result (Failure self.now) }
     {
-        match self {
-            Fault::NoRule(words) | Fault::NotDecided(words) | Fault::NotRun(words) => {
-                matches!(words, NoWords::Memory)
-            }
-            Fault::Cells(cells) => cells.reason == NoCells::Memory,
-            Fault::Text(_) | Fault::Drawing(_) => true,
-            Fault::Input(_) | Fault::Output(_) | Fault::Memory => true,
-            _ => false,
-        }
+        matches!(
+            self,
+            Fault::NoRule(NoWords::Memory)
+                | Fault::NotDecided(NoWords::Memory)
+                | Fault::NotRun(NoWords::Memory)
+                | Fault::Cells(BadCells {
+                    reason: NoCells::Memory,
+                    ..
+                })
+                | Fault::Text(NoText::Memory)
+                | Fault::Drawing(NoDrawing::Stream(_))
+                | Fault::Input(_)
+                | Fault::Output(_)
+                | Fault::Memory
+        )
     }
 }
 
@@ -121,10 +127,12 @@ impl From<NoRing> for Fault {
 }
 
 impl From<NoNext> for Fault {
+    ghost from_gives = { NextGives };
+
     fn from(e: NoNext) -> Fault {
         match e {
             NoNext::Row(e) => Fault::Next(e),
-            NoNext::Memory(_) => Fault::Memory,
+            NoNext::Memory => Fault::Memory,
         }
     }
 }
@@ -139,6 +147,8 @@ impl From<NoDrawing> for Fault {
 
 // What fails without a name is standard output: files and standard input are named where they are used.
 impl From<io::Error> for Fault {
+    ghost from_gives = { λ e r. r ≡ no_output e };
+
     fn from(e: io::Error) -> Fault {
         Fault::Output(e)
     }

@@ -10,7 +10,7 @@ use Rattle.std.proofs.ByRecursion.{All-push}
 use Rattle.pairs.specs.declared.graph.Direction.TheVariants.{Future}
 use Rattle.pairs.specs.Pairs.{pairs_of, first_window, second_window, neighbour_of}
 use Rattle.finite.specs.Diamonds.{target_of, dead_of, on_diagonal, has_edge, arrived, leads_pair, leads}
-use Rattle.rules.specs.Rules.{Rule, Sound, Piece, digits, at, blocks_of, next}
+use Rattle.rules.specs.Rules.{Rule, IsRule, Piece, digits, at, blocks_of, next}
 use Rattle.rules.proofs.Digits.{digits_push, digits_rest, digits_lt, split_number, same_from_digits}
 use Rattle.rules.proofs.Next.{next-cons}
 
@@ -22,7 +22,7 @@ pub record Block (r : Rule) (p : List ℕ) : Type 0 where
 abbrev pub pair_of : Rule → List ℕ → List ℕ → ℕ
 pair_of r p s = digits r.kinds 0 p * blocks_of r + digits r.kinds 0 s
 
-module _ (r : Rule) (sound : Sound r) where
+module _ (r : Rule) (rule : IsRule r) where
   pub number_lt : {p : List ℕ} → Block r p → digits r.kinds 0 p < blocks_of r
   number_lt {p} b = rw b.long at (digits_lt r.kinds p b.cells)
 
@@ -77,7 +77,7 @@ module _ (r : Rule) (sound : Sound r) where
 abbrev pub IsEdge : Rule → ℕ → ℕ → List ℕ → ℕ → List ℕ → ℕ → ℕ → Type 0
 IsEdge r e x p y s c c' = (e < r.kinds * r.kinds) × (at r (x ∷ (p ++ c ∷ [])) ≡ at r (y ∷ (s ++ c' ∷ [])))
 
-module _ (r : Rule) (sound : Sound r) {x y : ℕ} {p s : List ℕ} (b : Block r (x ∷ p)) (b' : Block r (y ∷ s)) (e c c' : ℕ) (first : e / r.kinds ≡ c) (second : e % r.kinds ≡ c') where
+module _ (r : Rule) (rule : IsRule r) {x y : ℕ} {p s : List ℕ} (b : Block r (x ∷ p)) (b' : Block r (y ∷ s)) (e c c' : ℕ) (first : e / r.kinds ≡ c) (second : e % r.kinds ≡ c') where
   abbrev here : ℕ
   here = pair_of r (x ∷ p) (y ∷ s)
 
@@ -91,28 +91,28 @@ module _ (r : Rule) (sound : Sound r) {x y : ℕ} {p s : List ℕ} (b : Block r 
   second_in = rw second at (mod_below e r.kinds (omega arith))
 
   first_is : first_window r Future here e ≡ digits r.kinds 0 (x ∷ p) * r.kinds + c
-  first_is = ap₂ (λ m n. m * r.kinds + n) (pair_split r sound b b').0 first
+  first_is = ap₂ (λ m n. m * r.kinds + n) (pair_split r rule b b').0 first
 
   second_is : second_window r Future here e ≡ digits r.kinds 0 (y ∷ s) * r.kinds + c'
-  second_is = ap₂ (λ m n. m * r.kinds + n) (pair_split r sound b b').1 second
+  second_is = ap₂ (λ m n. m * r.kinds + n) (pair_split r rule b b').1 second
 
   leads_here : leads r here e ≡ leads_pair r here e
-  leads_here = rw (lt-ltb here (pairs_of r) (pair_lt r sound b b')) refl
+  leads_here = rw (lt-ltb here (pairs_of r) (pair_lt r rule b b')) refl
 
   neighbour_is : e < r.kinds * r.kinds → neighbour_of r Future here e ≡ there
   neighbour_is h =
       ap₂ (λ m n. m % blocks_of r * blocks_of r + n % blocks_of r) first_is second_is
-      ∙ ap₂ (λ m n. m * blocks_of r + n) (block_behind r sound b (first_in h)) (block_behind r sound b' second_in)
+      ∙ ap₂ (λ m n. m * blocks_of r + n) (block_behind r rule b (first_in h)) (block_behind r rule b' second_in)
 
   known : (t : Bool) → has_edge r here e ≡ t → leads r here e ≡ cond t (arrived r here (neighbour_of r Future here e)) (dead_of r)
   known t is = leads_here ∙ ap (λ b. cond b (arrived r here (neighbour_of r Future here e)) (dead_of r)) is
 
   module _ (h : e < r.kinds * r.kinds) where
     first_cell : get_or r.table (first_window r Future here e) 0 ≡ at r (x ∷ (p ++ c ∷ []))
-    first_cell = ap (λ n. get_or r.table n 0) (first_is ∙ window_is r sound b (first_in h))
+    first_cell = ap (λ n. get_or r.table n 0) (first_is ∙ window_is r rule b (first_in h))
 
     second_cell : get_or r.table (second_window r Future here e) 0 ≡ at r (y ∷ (s ++ c' ∷ []))
-    second_cell = ap (λ n. get_or r.table n 0) (second_is ∙ window_is r sound b' second_in)
+    second_cell = ap (λ n. get_or r.table n 0) (second_is ∙ window_is r rule b' second_in)
 
     no_edge : (at r (x ∷ (p ++ c ∷ [])) ≡ at r (y ∷ (s ++ c' ∷ [])) → ⊥) → leads r here e ≡ dead_of r
     no_edge other = known false (and_right _ _ (ne_eqb _ _ (λ is. other (sym first_cell ∙ is ∙ second_cell))))
@@ -126,7 +126,7 @@ module _ (r : Rule) (sound : Sound r) {x y : ℕ} {p s : List ℕ} (b : Block r 
       ⊎_elim
       (λ h.
       elim (ℕ_discrete (at r (x ∷ (p ++ c ∷ []))) (at r (y ∷ (s ++ c' ∷ [])))) [
-        | yes same ↦ ⊎_elim (λ (meet, apart, is). inr (inl ((h, same), meet, apart, by_edge h same ∙ is))) (λ (meet, is). inr (inr ((h, same), meet, by_edge h same ∙ is))) (arrived_cases r sound b b' (next_block r sound b (first_in h)) (next_block r sound b' second_in))
+        | yes same ↦ ⊎_elim (λ (meet, apart, is). inr (inl ((h, same), meet, apart, by_edge h same ∙ is))) (λ (meet, is). inr (inr ((h, same), meet, by_edge h same ∙ is))) (arrived_cases r rule b b' (next_block r rule b (first_in h)) (next_block r rule b' second_in))
         | no other ↦ inl ((λ edge. other edge.1), no_edge h other)
       ])
       (λ far. inl ((λ edge. omega (arith, edge.0)), known false (and_left _ _ (le-ltb e (r.kinds * r.kinds) far))))

@@ -8,7 +8,7 @@ use Rattle.bfs.specs.Search.{StaysDead}
 use Rattle.bfs.specs.Words.{run, Over, LeadsTo}
 use Rattle.pairs.specs.Pairs.{pairs_of}
 use Rattle.finite.specs.Diamonds.{start_of, target_of, dead_of, symbols_of, leads, Symbols, firsts, seconds}
-use Rattle.rules.specs.Rules.{Rule, Sound, Piece, digits, at, blocks_of, next}
+use Rattle.rules.specs.Rules.{Rule, IsRule, Piece, digits, at, blocks_of, next}
 use Rattle.rules.proofs.Digits.{piece_of, split_number}
 use Rattle.theory.proofs.Diamonds.{Diamond}
 use Rattle.finite.proofs.Edges.{Block, pair_of, number_lt, pair_lt, next_block, next-window, IsEdge, leads_cases}
@@ -40,7 +40,7 @@ module _ (r : Rule) where
   ends_at_target [] is = refl
   ends_at_target (e ∷ v) is = absurd (not_from_dead v (ap (λ x. run (leads r) x v) (sym (leads_far (target_of r) e (omega arith))) ∙ is))
 
-module _ (r : Rule) (sound : Sound r) where
+module _ (r : Rule) (rule : IsRule r) where
   -- one symbol, and then others
   module _ {x y : ℕ} {p s : List ℕ} (b : Block r (x ∷ p)) (b' : Block r (y ∷ s)) (e : ℕ) (v : List ℕ) (edge : IsEdge r e x p y s (e / r.kinds) (e % r.kinds)) where
     abbrev cell : ℕ
@@ -59,7 +59,7 @@ module _ (r : Rule) (sound : Sound r) where
     spelled symbols same meet differ =
         record {
           symbols = (edge.0, symbols);
-          same = next-window r sound b (div_below e r.kinds r.kinds (omega arith) edge.0) (firsts r v) ∙ ap₂ ◌∷◌ edge.1 same ∙ sym (next-window r sound b' (mod_below e r.kinds (omega arith)) (seconds r v));
+          same = next-window r rule b (div_below e r.kinds r.kinds (omega arith) edge.0) (firsts r v) ∙ ap₂ ◌∷◌ edge.1 same ∙ sym (next-window r rule b' (mod_below e r.kinds (omega arith)) (seconds r v));
           meet = ap (drop (length v)) (sym there) ∙ meet ∙ ap (drop (length v)) there';
           differ = differ;
         }
@@ -74,7 +74,7 @@ module _ (r : Rule) (sound : Sound r) where
       (λ same. apart (sym (take_at (x ∷ p) (e / r.kinds ∷ []) (r.wide - 1) b.long) ∙ ap (take (r.wide - 1)) same ∙ take_at (y ∷ s) (e % r.kinds ∷ []) (r.wide - 1) b'.long))
 
   pub spells : (v p s : List ℕ) → Block r p → Block r s → run (leads r) (pair_of r p s) v ≡ target_of r → Spells r p s v
-  spells [] p s b b' is = absurd (omega (arith, pair_lt r sound b b', is))
+  spells [] p s b b' is = absurd (omega (arith, pair_lt r rule b b', is))
   spells (e ∷ v) [] s b b' is = absurd (omega (arith, b.long))
   spells (e ∷ v) (x ∷ p) [] b b' is = absurd (omega (arith, b'.long))
   spells (e ∷ v) (x ∷ p) (y ∷ s) b b' is =
@@ -83,8 +83,8 @@ module _ (r : Rule) (sound : Sound r) where
       (λ (_, dead). absurd (not_from_dead r v (from _ dead)))
       (⊎_elim
       (λ (edge, meet, apart, back). subst (λ w. Spells r (x ∷ p) (y ∷ s) (e ∷ w)) (sym (ends_at_target r v (from _ back))) (spells_last b b' e edge meet apart))
-      (λ (edge, _, on). spells_more b b' e v edge (spells v (p ++ e / r.kinds ∷ []) (s ++ e % r.kinds ∷ []) (next_block r sound b (div_below e r.kinds r.kinds (omega arith) edge.0)) (next_block r sound b' (mod_below e r.kinds (omega arith))) (from _ on))))
-      (leads_cases r sound b b' e (e / r.kinds) (e % r.kinds) refl refl)
+      (λ (edge, _, on). spells_more b b' e v edge (spells v (p ++ e / r.kinds ∷ []) (s ++ e % r.kinds ∷ []) (next_block r rule b (div_below e r.kinds r.kinds (omega arith) edge.0)) (next_block r rule b' (mod_below e r.kinds (omega arith))) (from _ on))))
+      (leads_cases r rule b b' e (e / r.kinds) (e % r.kinds) refl refl)
 
   -- pieces of one next row that differ and end with the same block have a word
   pub word_along : (u w p s : List ℕ) → Piece r u → Piece r w → Block r p → Block r s → length u ≡ length w → next r (p ++ u) ≡ next r (s ++ w) → drop (length u) (p ++ u) ≡ drop (length u) (s ++ w) → (p ++ u ≡ s ++ w → ⊥) → (v : List ℕ) × Over (symbols_of r) v × (run (leads r) (pair_of r p s) v ≡ target_of r) × (length v ≤ length u)
@@ -99,9 +99,9 @@ module _ (r : Rule) (sound : Sound r) where
       (⊎_elim
       (λ (_, _, _, back). (e ∷ [], (e_in, tt), back, one_more [] (omega arith)))
       (λ (_, come, on).
-      let (v, over, arrives, long) = word_along u w (p ++ c ∷ []) (s ++ c' ∷ []) cells-u.1 cells-w.1 (next_block r sound b cells-u.0) (next_block r sound b' cells-w.0) (omega arith) rest meet_rest (λ same. differ (whole (come (block same)) same)) in
+      let (v, over, arrives, long) = word_along u w (p ++ c ∷ []) (s ++ c' ∷ []) cells-u.1 cells-w.1 (next_block r rule b cells-u.0) (next_block r rule b' cells-w.0) (omega arith) rest meet_rest (λ same. differ (whole (come (block same)) same)) in
       (e ∷ v, (e_in, over), ap (λ a. run (leads r) a v) on ∙ arrives, one_more v long)))
-      (leads_cases r sound b b' e c c' cells.0 cells.1)
+      (leads_cases r rule b b' e c c' cells.0 cells.1)
     where
       e : ℕ
       e = c * r.kinds + c'
@@ -119,7 +119,7 @@ module _ (r : Rule) (sound : Sound r) where
       one_more v h = omega arith
 
       windows : at r (x ∷ (p ++ c ∷ [])) ∷ next r ((p ++ c ∷ []) ++ u) ≡ at r (y ∷ (s ++ c' ∷ [])) ∷ next r ((s ++ c' ∷ []) ++ w)
-      windows = sym (next-window r sound b cells-u.0 u) ∙ same ∙ next-window r sound b' cells-w.0 w
+      windows = sym (next-window r rule b cells-u.0 u) ∙ same ∙ next-window r rule b' cells-w.0 w
 
       edge : IsEdge r e x p y s c c'
       edge = (e_small, cc windows)
@@ -132,7 +132,7 @@ module _ (r : Rule) (sound : Sound r) where
 
       block : (p ++ c ∷ []) ++ u ≡ (s ++ c' ∷ []) ++ w → p ++ c ∷ [] ≡ s ++ c' ∷ []
       block same =
-          sym (take_at (p ++ c ∷ []) u (r.wide - 1) (next_block r sound b cells-u.0).long) ∙ ap (take (r.wide - 1)) same ∙ take_at (s ++ c' ∷ []) w (r.wide - 1) (next_block r sound b' cells-w.0).long
+          sym (take_at (p ++ c ∷ []) u (r.wide - 1) (next_block r rule b cells-u.0).long) ∙ ap (take (r.wide - 1)) same ∙ take_at (s ++ c' ∷ []) w (r.wide - 1) (next_block r rule b' cells-w.0).long
 
       whole : x ∷ p ≡ y ∷ s → (p ++ c ∷ []) ++ u ≡ (s ++ c' ∷ []) ++ w → x ∷ p ++ (c ∷ u) ≡ y ∷ s ++ (c' ∷ w)
       whole first same = ap₂ ◌∷◌ (cc first) (sym (append_assoc p (c ∷ []) u) ∙ same ∙ append_assoc s (c' ∷ []) w)
@@ -140,7 +140,7 @@ module _ (r : Rule) (sound : Sound r) where
   -- a block leads from the start to the pair of itself
   leads_start : (p : List ℕ) → Block r p → leads r (start_of r) (digits r.kinds 0 p) ≡ pair_of r p p
   leads_start p b =
-      rw (le-ltb (start_of r) (pairs_of r) (omega arith), eq-eqb (start_of r) (start_of r) refl, lt-ltb (digits r.kinds 0 p) (blocks_of r) (number_lt r sound b)) refl
+      rw (le-ltb (start_of r) (pairs_of r) (omega arith), eq-eqb (start_of r) (start_of r) refl, lt-ltb (digits r.kinds 0 p) (blocks_of r) (number_lt r rule b)) refl
 
   -- each diamond has a word
   pub word_from_diamond : {p u w s : List ℕ} → Diamond r p u w s → (v : List ℕ) × LeadsTo (symbols_of r) (leads r) (start_of r) (target_of r) v × (length v ≤ 1 + (length u + (r.wide - 1)))
@@ -152,7 +152,7 @@ module _ (r : Rule) (sound : Sound r) where
       block = record { cells = d.cells_p; long = d.long_p }
 
       first : digits r.kinds 0 p < symbols_of r
-      first = omega (arith, number_lt r sound block)
+      first = omega (arith, number_lt r rule block)
 
       as_long : length (u ++ s) ≡ length (w ++ s)
       as_long = omega (arith, length-append u s, length-append w s, d.as_long)

@@ -8,14 +8,14 @@ use Rattle.std.proofs.ByRecursion.{All-append}
 use Rattle.bfs.specs.Words.{LeadsTo}
 use Rattle.finite.specs.Diamonds.{start_of, target_of, symbols_of, leads, FirstDiamond, NoDiamonds, IsBlock, Symbols, firsts, seconds}
 use Rattle.finite.specs.Told.{Told, parts_of}
-use Rattle.rules.specs.Rules.{Rule, Sound, Piece, Row, digits, next}
+use Rattle.rules.specs.Rules.{Rule, IsRule, Piece, Row, digits, next}
 use Rattle.rules.proofs.Next.{same_next_within}
 use Rattle.theory.specs.Says.{FiniteTwins, HasFiniteTwins, HasOrphan}
 use Rattle.theory.proofs.Diamonds.{Diamond, row_of, diamond_from_pieces, finite_from_diamond, diamond_from_finite, finite_exactly}
 use Rattle.finite.proofs.Edges.{Block}
 use Rattle.finite.proofs.Reading.{Spells, word_from_diamond, spelled_by}
 
-module _ (r : Rule) (sound : Sound r) where
+module _ (r : Rule) (rule : IsRule r) where
   abbrev q : ℕ
   q = r.wide - 1
 
@@ -86,12 +86,12 @@ module _ (r : Rule) (sound : Sound r) where
   word_from_finite : (c d : Row) → FiniteTwins r c d → (v : List ℕ) × LeadsTo (symbols_of r) (leads r) (start_of r) (target_of r) v × (length v ≤ 1 + (length c.mid + q))
   word_from_finite c d finite =
       let (p, s, diamond) = diamond_from_finite r (omega arith) finite in
-      word_from_diamond r sound diamond
+      word_from_diamond r rule diamond
 
   pub none_from_word : NoDiamonds r → (HasFiniteTwins r → ⊥) × (HasOrphan r → ⊥)
   none_from_word never =
       let none : HasFiniteTwins r → ⊥ = λ (c, d, finite). let (v, to, _) = word_from_finite c d finite in never v to in
-      (none, λ orphan. none ((finite_exactly r sound).1 orphan))
+      (none, λ orphan. none ((finite_exactly r rule).1 orphan))
 
 -- what a first word tells: it begins with the block p, and behind it the rows spell their middles and their right
 pub record Found (r : Rule) (n : ℕ) (v : List ℕ) : Type 0 where
@@ -103,15 +103,15 @@ pub record Found (r : Rule) (n : ℕ) (v : List ℕ) : Type 0 where
   pub told : Told r (r.wide - 1) (length v - (r.wide - 1)) (r.wide - 1)
   pub parts : parts_of told.a told.b ≡ (p ++ firsts r v) ++ (p ++ seconds r v)
 
-module _ (r : Rule) (sound : Sound r) where
+module _ (r : Rule) (rule : IsRule r) where
   found : (n : ℕ) (v : List ℕ) → FirstDiamond r (n ∷ v) → (p : List ℕ) → Block r p → digits r.kinds 0 p ≡ n → Spells r p p v → Found r n v
   found n v first p block number s =
       record {
         p = p;
         block = record { cells = block.cells; long = block.long; number = number };
         symbols = s.symbols;
-        longer = longer r sound block s;
-        orphan = (finite_exactly r sound).0 (row_of p u e, row_of p w e, finite);
+        longer = longer r rule block s;
+        orphan = (finite_exactly r rule).0 (row_of p u e, row_of p w e, finite);
         told = record {
           a = row_of p u e;
           b = row_of p w e;
@@ -138,7 +138,7 @@ module _ (r : Rule) (sound : Sound r) where
       e = drop m (firsts r v)
 
       d : Diamond r p u w e
-      d = diamond r sound block s
+      d = diamond r rule block s
 
       finite : FiniteTwins r (row_of p u e) (row_of p w e)
       finite = finite_from_diamond r (omega arith) d
@@ -148,18 +148,18 @@ module _ (r : Rule) (sound : Sound r) where
 
       shortest : (a b : Row) → FiniteTwins r a b → length u ≤ length a.mid
       shortest a b other =
-          let (x, to, short) = word_from_finite r sound a b other in
+          let (x, to, short) = word_from_finite r rule a b other in
           omega (arith, long, short, first.shortest x to)
 
       together : parts_of (row_of p u e) (row_of p w e) ≡ (p ++ firsts r v) ++ (p ++ seconds r v)
       together =
           ap (λ z. p ++ z) (sym (append_assoc u e (p ++ (w ++ e))))
           ∙ sym (append_assoc p (u ++ e) (p ++ (w ++ e)))
-          ∙ ap₂ (λ y z. (p ++ y) ++ (p ++ z)) (first_is r sound block s) (second_is r sound block s)
+          ∙ ap₂ (λ y z. (p ++ y) ++ (p ++ z)) (first_is r rule block s) (second_is r rule block s)
 
   pub found_from_word : (n : ℕ) (v : List ℕ) → FirstDiamond r (n ∷ v) → Found r n v
   found_from_word n v first =
-      let (p, block, number, s) = spelled_by r sound n v first.one.arrives in
+      let (p, block, number, s) = spelled_by r rule n v first.one.arrives in
       found n v first p block number s
 
   -- the same of a word that is taken apart

@@ -6,7 +6,7 @@ use Rattle.std.proofs.lemmas.List.{nil_from_length}
 use Rattle.std.proofs.str.Laws.{order}
 use lib.Seq.{drop-nil}
 use Rattle.inverse.specs.Prefixes.{Keeps, Right, Kept}
-use Rattle.rules.specs.Rules.{Rule, Formed, Sound, Piece, digits, next}
+use Rattle.rules.specs.Rules.{Rule, Formed, IsRule, Piece, digits, next}
 use Rattle.theory.specs.Says.{Back, Tells}
 use Rattle.rules.proofs.Digits.{digits_lt, same_from_digits, piece_of}
 use Rattle.rules.proofs.Next.{get_or_kind, length-next_block, piece_next}
@@ -81,8 +81,8 @@ module _ (r : Rule) (formed : Formed r) (o : ℕ) where
       (order x c)
 
 -- where all pieces of v windows are right, the front of a table is a way back: no piece is an orphan, so each number has a cell
-pub back_from_right : (r : Rule) → Sound r → (v o : ℕ) → 1 ≤ v → o < v + (r.wide - 1) → Tells r v o → (t : List ℕ) → r.kinds ^ v ≤ length t → ((u : List ℕ) → Piece r u → length u ≡ v + (r.wide - 1) → Right r o t u) → Back r v o (take (r.kinds ^ v) t)
-back_from_right r sound v o some inside tells t room right =
+pub back_from_right : (r : Rule) → IsRule r → (v o : ℕ) → 1 ≤ v → o < v + (r.wide - 1) → Tells r v o → (t : List ℕ) → r.kinds ^ v ≤ length t → ((u : List ℕ) → Piece r u → length u ≡ v + (r.wide - 1) → Right r o t u) → Back r v o (take (r.kinds ^ v) t)
+back_from_right r rule v o some inside tells t room right =
     record { wide = some; inside = inside; full = length-take-le (k ^ v) t room; cells = All-from_get_or (λ c. c < k) (take (k ^ v) t) 0 kind; back = λ u cells long. front (digits k 0 (next r u)) (below u long) ∙ right u cells long }
   where
     k : ℕ
@@ -92,13 +92,13 @@ back_from_right r sound v o some inside tells t room right =
     front d h = get_or-take (k ^ v) t d 0 h
 
     below : (u : List ℕ) → length u ≡ v + (r.wide - 1) → digits k 0 (next r u) < k ^ v
-    below u long = omega (arith, digits_lt k (next r u) (piece_next r (omega arith) sound.cells u), ap (λ n. k ^ n) {x = length (next r u)} {y = v} (omega (arith, length-next_block r (omega arith) u, long)))
+    below u long = omega (arith, digits_lt k (next r u) (piece_next r (omega arith) rule.formed.cells u), ap (λ n. k ^ n) {x = length (next r u)} {y = v} (omega (arith, length-next_block r (omega arith) u, long)))
 
     kind : (d : ℕ) → d < length (take (k ^ v) t) → get_or (take (k ^ v) t) d 0 < k
     kind d h =
         let d-in : d < k ^ v = omega (arith, length-take-le (k ^ v) t room) in
         let (x, cells-x, long-x, is) = piece_of k (omega arith) v d d-in in
-        let (s, way) = back_from_tells r sound v o some inside tells in
-        let (u, (cells_u, (long-u, from))) = preimage r (λ y. no_orphan r v o s y sound way) x cells-x in
+        let (s, way) = back_from_tells r rule v o some inside tells in
+        let (u, (cells_u, (long-u, from))) = preimage r (λ y. no_orphan r v o s y rule way) x cells-x in
         let at : get_or (take (k ^ v) t) d 0 ≡ get_or u o 0 = front d d-in ∙ ap (λ n. get_or t n 0) (sym is ∙ ap (digits k 0) (sym from)) ∙ right u cells_u (long-u ∙ ap (λ n. n + (r.wide - 1)) long-x) in
         omega (arith, get_or_kind {k = k} (omega arith) u o cells_u)

@@ -7,7 +7,7 @@ use Rattle.std.proofs.ByRecursion.{All-take, All-drop}
 use Rattle.std.proofs.lemmas.Bool.{cases_lt, cases_eq}
 use Rattle.pairs.specs.declared.graph.Direction.{Direction}
 use Rattle.pairs.specs.declared.graph.Direction.TheVariants.{Past, Future}
-use Rattle.rules.specs.Rules.{Rule, Sound, Piece, blocks_of}
+use Rattle.rules.specs.Rules.{Rule, IsRule, Sound, Piece, blocks_of}
 use Rattle.theory.specs.Says.{OneNext, Tells, Back, NoneLess}
 use Rattle.pairs.specs.Pairs.{pairs_of, block_at, pair_at, Walk, Has, endless, Depth, Depths}
 use Rattle.inverse.specs.Inverse.{Apart, Endless, FirstTold, NoneTold}
@@ -24,8 +24,8 @@ pub record Place (r : Rule) (v o t g : ℕ) : Type 0 where
   pub digit : r.wide - 1 ≡ (i + 1) + j
   pub unit : g ≡ r.kinds ^ j
 
-pub place_at : {r : Rule} → Sound r → (v o t g : ℕ) → t ≡ min o v → o < v + (r.wide - 1) → g ≡ r.kinds ^ ((r.wide - 2) - (o - t)) → Place r v o t g
-place_at {r} sound v o t g is inside unit = record { i = o - t; j = (r.wide - 2) - (o - t); inside = omega arith; split = omega arith; digit = omega arith; unit = unit }
+pub place_at : {r : Rule} → IsRule r → (v o t g : ℕ) → t ≡ min o v → o < v + (r.wide - 1) → g ≡ r.kinds ^ ((r.wide - 2) - (o - t)) → Place r v o t g
+place_at {r} rule v o t g is inside unit = record { i = o - t; j = (r.wide - 2) - (o - t); inside = omega arith; split = omega arith; digit = omega arith; unit = unit }
 
 pub unit_le : {r : Rule} → Sound r → (j : ℕ) → j ≤ r.wide - 1 → r.kinds ^ j ≤ 16
 unit_le {r} sound j h = le_trans (pow-le-pow_right {n = r.kinds} (omega arith) h) sound.small
@@ -51,8 +51,8 @@ pub record Refuted (r : Rule) (v : ℕ) : Type 0 where
   pub most : v ≤ pairs_of r + pairs_of r
   pub none : (w : ℕ) → 1 ≤ w → w < v → NoneTold r w
 
-pub refuted_none : {r : Rule} → Sound r → Refuted r 1
-refuted_none {r} sound = record { some = omega arith; most = omega (arith, mul-lt 0 0 (blocks_of r) (blocks_of r) (blocks_pos r sound) (blocks_pos r sound)); none = λ w h l. absurd (omega arith) }
+pub refuted_none : {r : Rule} → IsRule r → Refuted r 1
+refuted_none {r} rule = record { some = omega arith; most = omega (arith, mul-lt 0 0 (blocks_of r) (blocks_of r) (blocks_pos r rule) (blocks_pos r rule)); none = λ w h l. absurd (omega arith) }
 
 pub refuted_more : {r : Rule} {v : ℕ} → Refuted r v → NoneTold r v → v < pairs_of r + pairs_of r → Refuted r (v + 1)
 refuted_more {r} {v} refuted told l = record { some = omega arith; most = omega arith; none = λ w h less. ⊎_elim (λ e. subst (NoneTold r) (sym e) told) (λ other. refuted.none w h (omega arith)) (cases_eq w v) }
@@ -65,7 +65,7 @@ none_less r some v o refuted told w p s way =
       λ e. ⊎_elim (λ l. absurd (told.first p l (subst (λ n. Tells r n p) (sym e) tells))) (λ h. h) (cases_lt p o),
     )
 
-module _ (r : Rule) (sound : Sound r) where
+module _ (r : Rule) (rule : IsRule r) where
   -- the digit of a block is the cell of the piece
   cell_of_block : (u : List ℕ) (t i j : ℕ) → Piece r u → t + (r.wide - 1) ≤ length u → r.wide - 1 ≡ (i + 1) + j → block_at r u t / r.kinds ^ j % r.kinds ≡ get_or u (t + i) 0
   cell_of_block u t i j cells inside digit =
@@ -79,7 +79,7 @@ module _ (r : Rule) (sound : Sound r) where
     cells_of_pair : {u w : List ℕ} {x : ℕ} → OneNext r u w → t + (r.wide - 1) ≤ length u → pair_at r u w t ≡ x → (x / blocks_of r / g % r.kinds ≡ get_or u o 0) × (x % blocks_of r / g % r.kinds ≡ get_or w o 0)
     cells_of_pair {u} {w} {x} one inside is =
         let inside-w : t + (r.wide - 1) ≤ length w = omega (arith, one.as_long) in
-        let (first, second) = split_number (blocks_of r) (block_at r u t) (block_at r w t) x (block_lt r sound w t one.cells_w inside-w) is in
+        let (first, second) = split_number (blocks_of r) (block_at r u t) (block_at r w t) x (block_lt r rule w t one.cells_w inside-w) is in
         (cell u first one.cells_u inside, cell w second one.cells_w inside-w)
       where
         cell : (z : List ℕ) {b : ℕ} → b ≡ block_at r z t → Piece r z → t + (r.wide - 1) ≤ length z → b / g % r.kinds ≡ get_or z o 0
@@ -100,12 +100,12 @@ module _ (r : Rule) (sound : Sound r) where
         agree (yes e) = e
         agree (no differ) =
             let (first, second) = cells_of_pair one inside refl in
-            absurd (none (pair_at r u w t) (pair_lt r sound t one inside) (λ e. differ (sym first ∙ e ∙ second)) (walk_front r sound place.inside (omega arith) walk) (walk_rest r sound t (omega (arith, place.inside)) (omega arith) walk))
+            absurd (none (pair_at r u w t) (pair_lt r rule t one inside) (λ e. differ (sym first ∙ e ∙ second)) (walk_front r rule place.inside (omega arith) walk) (walk_rest r rule t (omega (arith, place.inside)) (omega arith) walk))
 
     -- and only there
     pub pairs_from_tells : Tells r v o → (x : ℕ) → Apart r g x → Has r Past t x → Has r Future (v - t) x → ⊥
     pairs_from_tells tells x apart past future =
-        let (u, w, one, long, front, _) = walks_join r sound past future in
+        let (u, w, one, long, front, _) = walks_join r rule past future in
         let (first, second) = cells_of_pair one (omega (arith, long)) (front t (omega arith) ∙ past.at_i) in
         apart (first ∙ tells u w one (omega (arith, long, place.inside)) ∙ sym second)
 
@@ -116,4 +116,4 @@ module _ (r : Rule) (sound : Sound r) where
 
   -- a width that tells no place is not so far
   pub none_told_lt : (ps fs : List ℕ) → Depths r Past ps → Depths r Future fs → ((x : ℕ) → Endless r x → ⊥) → (v : ℕ) → NoneTold r v → v < pairs_of r + pairs_of r
-  none_told_lt ps fs pasts futures none v told = ⊎_elim (λ l. l) (λ far. absurd (told (pairs_of r) (omega (arith, far, sound.wide)) (tells_far ps fs pasts futures none v far))) (cases_lt v (pairs_of r + pairs_of r))
+  none_told_lt ps fs pasts futures none v told = ⊎_elim (λ l. l) (λ far. absurd (told (pairs_of r) (omega (arith, far, rule.wide)) (tells_far ps fs pasts futures none v far))) (cases_lt v (pairs_of r + pairs_of r))

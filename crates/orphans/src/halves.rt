@@ -1,4 +1,4 @@
-// What follows a set of blocks, looked up by halves of the set, as `undone::decide` takes it.
+// What follows a set of blocks, looked up by halves of the set, as the search takes it.
 ghost use Rattle.std.specs.Prelude.{◌≡◌, ℕ, ◌+◌, ◌-◌, ◌*◌, ◌%◌, ◌^◌, ◌<◌, ◌≤◌, length, bit_or, slice_index};
 ghost use Rattle.rules.specs.Local.{the_rule};
 ghost use Rattle.orphans.specs.Subsets.{Followers, Masks, SetsTell};

@@ -1,7 +1,7 @@
 #![tactic(auto)]
 
 // The shortest orphan: the first word that leads from all blocks to none.
-ghost use Rattle.std.specs.Prelude.{◌≡◌, ℕ, ◌+◌, ◌-◌, ◌*◌, ◌^◌, ◌≤◌, length};
+ghost use Rattle.std.specs.Prelude.{◌≡◌, ℕ, ◌*◌, ◌^◌, ◌≤◌, length};
 ghost use Rattle.rules.specs.Local.{the_rule};
 ghost use Rattle.rules.specs.Rules.{blocks_of};
 ghost use Rattle.orphans.specs.Orphans.{TellsOrphan, words_of};
@@ -15,30 +15,13 @@ pub mod subsets;
 use crate::automaton::{SubsetAutomaton, SubsetSteps};
 use crate::halves::{Halves, write_followers};
 use crate::sets::BlockSet;
-use crate::subsets::{Subsets, fill_masks};
+use crate::subsets::fill_masks;
 use bfs::{TooLong, shortest_word};
 use rules::sound::SoundRule;
 
 // The shortest piece that comes from none, and of these the first by its digits, first in `out`; or that there is none. The
-// work words are a mask for each window, and 4 for each set of blocks.
+// work words are a mask for each window, what follows each set of half of the blocks by each kind, and 4 for each set.
 pub fn first_orphan(
-    rule: SoundRule,
-    out: &mut [u32],
-    work: &mut [u32],
-) -> Result<Option<usize>, TooLong>
-    requires room { rule.local.kinds ^ rule.local.wide + 4 * 2 ^ (rule.local.kinds ^ (rule.local.wide - 1)) ≤ length work.old }
-    ensures { TellsOrphan (the_rule rule.entry.local) out.old out.new result }
-{
-    let rule = rule.local;
-    let windows = rule.blocks() * rule.kinds() as usize;
-    let (masks, queue) = work.split_at_mut(windows);
-    fill_masks(rule, masks);
-    shortest_to_none(Subsets::new(rule, masks), out, queue)
-}
-
-// The same, found faster with more words of work: a mask for each window, what follows each set of half of the blocks by each
-// kind, and 4 for each set.
-pub fn first_orphan_by_halves(
     rule: SoundRule,
     out: &mut [u32],
     work: &mut [u32],
@@ -59,7 +42,7 @@ pub fn first_orphan_by_halves(
     shortest_to_none(Halves::new(rule, half, low, high), out, queue)
 }
 
-// The first word from all blocks to none, by whatever tables. The queue takes 4 words for each set of blocks.
+// The first word from all blocks to none, by whatever steps. The queue takes 4 words for each set of blocks.
 fn shortest_to_none<S: SubsetSteps + Copy>(
     steps: S,
     out: &mut [u32],

@@ -3,7 +3,7 @@ use Rattle.std.proofs.Common.{◌≡◌, ℕ, zero, suc, ◌+◌, ◌*◌, ◌/�
 use Rattle.std.proofs.lemmas.Nat.{mul-add-lt, div-mul-add, mod-mul-add, div-add-mod', div_below, mod_below}
 use Rattle.pairs.specs.declared.graph.Direction.{Direction}
 use Rattle.pairs.specs.declared.graph.Direction.TheVariants.{Past, Future}
-use Rattle.rules.specs.Rules.{Rule, Sound, blocks_of}
+use Rattle.rules.specs.Rules.{Rule, IsRule, blocks_of}
 use Rattle.pairs.specs.Pairs.{pairs_of, pair_at, Has, beyond, first_window, second_window, Edge, neighbour_of}
 use Rattle.rules.proofs.Digits.{split_number}
 use Rattle.pairs.proofs.Walks.{Link, blocks_pos, pair_lt, walk_front, walk_rest, walks_join, walk_none, walk_link, link_at}
@@ -22,14 +22,14 @@ neighbour_found r d x e {s = s} {t} {m} first second is_c is-c' same is-s is-t s
       omega (arith, is, mul-add-lt s (blocks_of r) t (blocks_of r) s-in t-in),
     )
 
-module _ (r : Rule) (sound : Sound r) where
+module _ (r : Rule) (rule : IsRule r) where
   -- what the code finds by two cells is an edge
   pub towards_from_edge : (d : Direction) (x e : ℕ) → x < pairs_of r → e < r.kinds * r.kinds → Edge r d x e → Towards r d x (neighbour_of r d x e)
   towards_from_edge Past x e h l same =
       let b = blocks_of r in
       let k = r.kinds in
-      let block = div_below x b b (blocks_pos r sound) h in
-      let block' = mod_below x b (blocks_pos r sound) in
+      let block = div_below x b b (blocks_pos r rule) h in
+      let block' = mod_below x b (blocks_pos r rule) in
       record {
         a = first_window r Past x e;
         b = second_window r Past x e;
@@ -47,8 +47,8 @@ module _ (r : Rule) (sound : Sound r) where
       record {
         a = first_window r Future x e;
         b = second_window r Future x e;
-        a_in = omega (arith, mul-add-lt (x / b) k (e / k) b (div_below x b b (blocks_pos r sound) h) cell);
-        b_in = omega (arith, mul-add-lt (x % b) k (e % k) b (mod_below x b (blocks_pos r sound)) cell');
+        a_in = omega (arith, mul-add-lt (x / b) k (e / k) b (div_below x b b (blocks_pos r rule) h) cell);
+        b_in = omega (arith, mul-add-lt (x % b) k (e % k) b (mod_below x b (blocks_pos r rule)) cell');
         same = same;
         from = ap₂ (λ y z. y * b + z) (div-mul-add (x / b) k (e / k) cell) (div-mul-add (x % b) k (e % k) cell') ∙ div-add-mod' x b;
         to = refl;
@@ -59,14 +59,14 @@ module _ (r : Rule) (sound : Sound r) where
   edge_from_towards Past x y link =
       let b = blocks_of r in
       let k = r.kinds in
-      let cell : link.b / b < k = div_below link.b b k (blocks_pos r sound) (omega (arith, link.b_in)) in
+      let cell : link.b / b < k = div_below link.b b k (blocks_pos r rule) (omega (arith, link.b_in)) in
       let e : ℕ = (link.a / b) * k + link.b / b in
-      let (block, block') = split_number b (link.a % b) (link.b % b) x (mod_below link.b b (blocks_pos r sound)) link.to in
+      let (block, block') = split_number b (link.a % b) (link.b % b) x (mod_below link.b b (blocks_pos r rule)) link.to in
       let (c, c') = split_number k (link.a / b) (link.b / b) e cell refl in
       let first : first_window r Past x e ≡ link.a = ap₂ (λ s t. s * b + t) c block ∙ div-add-mod' link.a b in
       let second : second_window r Past x e ≡ link.b = ap₂ (λ s t. s * b + t) c' block' ∙ div-add-mod' link.b b in (
         e,
-        mul-add-lt (link.a / b) k (link.b / b) k (div_below link.a b k (blocks_pos r sound) (omega (arith, link.a_in))) cell,
+        mul-add-lt (link.a / b) k (link.b / b) k (div_below link.a b k (blocks_pos r rule) (omega (arith, link.a_in))) cell,
         ap (λ n. get_or r.table n 0) first ∙ link.same ∙ ap (λ n. get_or r.table n 0) (sym second),
         ap₂ (λ s t. (s / k) * b + t / k) first second ∙ link.from,
       )
@@ -87,34 +87,34 @@ module _ (r : Rule) (sound : Sound r) where
 
   has_towards : (d : Direction) (n x y : ℕ) → Towards r d x y → Has r d n y → Has r d (n + 1) x
   has_towards Past n x y link walk =
-      let (edge, at_1) = walk_link r sound link in
-      let (u, w, one, long, front, rest) = walks_join r sound walk edge in
+      let (edge, at_1) = walk_link r rule link in
+      let (u, w, one, long, front, rest) = walks_join r rule walk edge in
       record { u = u; w = w; one = one; long = long; at_i = rest 1 ∙ at_1 }
   has_towards Future n x y link walk =
-      let (edge, at_1) = walk_link r sound link in
-      let (u, w, one, long, front, rest) = walks_join r sound (record { u = edge.u; w = edge.w; one = edge.one; long = edge.long; at_i = at_1 }) walk in
+      let (edge, at_1) = walk_link r rule link in
+      let (u, w, one, long, front, rest) = walks_join r rule (record { u = edge.u; w = edge.w; one = edge.one; long = edge.long; at_i = at_1 }) walk in
       record { u = u; w = w; one = one; long = omega (arith, long); at_i = front 0 (omega arith) ∙ edge.at_i }
 
   towards_has : (d : Direction) (n x : ℕ) → Has r d (n + 1) x → (y : ℕ) × (y < pairs_of r) × Towards r d x y × Has r d n y
   towards_has Past n x walk =
       let y = pair_at r walk.u walk.w n in (
         y,
-        pair_lt r sound n walk.one (omega (arith, walk.long)),
-        subst (Link r y) walk.at_i (link_at r sound n walk.one (omega (arith, walk.long))),
-        walk_front r sound {n = n + 1} (omega arith) (omega arith) (record { u = walk.u; w = walk.w; one = walk.one; long = walk.long; at_i = refl }),
+        pair_lt r rule n walk.one (omega (arith, walk.long)),
+        subst (Link r y) walk.at_i (link_at r rule n walk.one (omega (arith, walk.long))),
+        walk_front r rule {n = n + 1} (omega arith) (omega arith) (record { u = walk.u; w = walk.w; one = walk.one; long = walk.long; at_i = refl }),
       )
   towards_has Future n x walk =
       let y = pair_at r walk.u walk.w 1 in (
         y,
-        pair_lt r sound 1 walk.one (omega (arith, walk.long)),
-        subst (λ z. Link r z y) walk.at_i (link_at r sound 0 walk.one (omega (arith, walk.long))),
-        walk_rest r sound {n = n + 1} {i = 1} 1 (omega arith) (omega arith) (record { u = walk.u; w = walk.w; one = walk.one; long = walk.long; at_i = refl }),
+        pair_lt r rule 1 walk.one (omega (arith, walk.long)),
+        subst (λ z. Link r z y) walk.at_i (link_at r rule 0 walk.one (omega (arith, walk.long))),
+        walk_rest r rule {n = n + 1} {i = 1} 1 (omega arith) (omega arith) (record { u = walk.u; w = walk.w; one = walk.one; long = walk.long; at_i = refl }),
       )
 
   -- each pair has a past and a future of no edges
   pub has_none : (d : Direction) (x : ℕ) → x < pairs_of r → Has r d 0 x
-  has_none Past x h = walk_none r sound x h
-  has_none Future x h = walk_none r sound x h
+  has_none Past x h = walk_none r rule x h
+  has_none Future x h = walk_none r rule x h
 
   -- one of one edge more, by an edge
   pub has_more : (d : Direction) (n x e : ℕ) → x < pairs_of r → e < r.kinds * r.kinds → Edge r d x e → Has r d n (neighbour_of r d x e) → Has r d (n + 1) x

@@ -7,7 +7,7 @@ use Rattle.std.proofs.lemmas.List.Sums.{sum_by-set}
 use Rattle.std.proofs.lemmas.Bool.{true≢false, false≢true, cases_lt, cases_eq, eq-eqb, ne_eqb, cond-true, cond-false}
 use Rattle.pairs.specs.declared.graph.Direction.{Direction}
 use Rattle.pairs.specs.declared.graph.Direction.TheVariants.{Past, Future}
-use Rattle.rules.specs.Rules.{Rule, Sound}
+use Rattle.rules.specs.Rules.{Rule, IsRule}
 use Rattle.pairs.specs.Pairs.{pairs_of, Has, endless, Depths, Writes, Graph, Known, Rounds, Edge, neighbour_of}
 use Rattle.pairs.proofs.Edges.{has_none, has_more, edge_from_has, has_less}
 
@@ -30,11 +30,11 @@ fewer_left n i ws inside is less =
     let now = cond-false {A = ℕ} (eqb endless n) 1 0 (ne_eqb endless n (λ e. omega arith)) in
     omega (arith, sum_by-set (λ w. cond (eqb endless w) 1 0) ws i n 0 inside)
 
-module _ (r : Rule) (sound : Sound r) (d : Direction) where
+module _ (r : Rule) (rule : IsRule r) (d : Direction) where
   has_below : (m n x : ℕ) → x < pairs_of r → m ≤ n → Has r d n x → Has r d m x
   has_below m zero x h l has = subst (λ i. Has r d i x) {x = 0} (omega arith) has
   has_below m (suc n) x h l has =
-      ⊎_elim (λ less. has_below m n x h (omega arith) (has_less r sound d n x h (rw add-one has))) (λ ge. subst (λ i. Has r d i x) {x = suc n} (omega arith) has) (cases_lt m (suc n))
+      ⊎_elim (λ less. has_below m n x h (omega arith) (has_less r rule d n x h (rw add-one has))) (λ ge. subst (λ i. Has r d i x) {x = suc n} (omega arith) has) (cases_lt m (suc n))
 
   -- a pair that an earlier round dropped
   known_before : (n x w : ℕ) → x < pairs_of r → Known r d n x w → w < n → Known r d (n + 1) x w
@@ -90,7 +90,7 @@ module _ (r : Rule) (sound : Sound r) (d : Direction) where
     -- to a pair with an edge e to a pair y that was left
     pub swept_left : i < pairs_of r → n < endless → n ≤ get_or ws i 0 → (e y : ℕ) → e < r.kinds * r.kinds → Edge r d i e → y ≡ neighbour_of r d i e → y < pairs_of r → n ≤ get_or ws y 0 → Swept r d n (i + 1) o ws dropped
     swept_left inside small left e y few edge is y-in y-left =
-        swept_keep (known_left n i (get_or ws i 0) small (here inside) left (has_more r sound d n i e inside few edge (subst (Has r d n) is ((left_from_swept y y-in).1 y-left))))
+        swept_keep (known_left n i (get_or ws i 0) small (here inside) left (has_more r rule d n i e inside few edge (subst (Has r d n) is ((left_from_swept y y-in).1 y-left))))
 
     -- an edge to a pair that was gone does not count
     pub edge_gone : (e y : ℕ) → y ≡ neighbour_of r d i e → y < pairs_of r → get_or ws y 0 < n → Has r d n (neighbour_of r d i e) → ⊥
@@ -108,7 +108,7 @@ module _ (r : Rule) (sound : Sound r) (d : Direction) where
         }
       where
         known : Known r d (n + 1) i n
-        known = known_dropped n i (get_or ws i 0) (here inside) left (λ has. let (e, few, edge, _, rest) = edge_from_has r sound d n i has in none e few edge rest)
+        known = known_dropped n i (get_or ws i 0) (here inside) left (λ has. let (e, few, edge, _, rest) = edge_from_has r rule d n i has in none e few edge rest)
 
         in_ws : i < length ws
         in_ws = omega (arith, swept.long)
@@ -125,7 +125,7 @@ module _ (r : Rule) (sound : Sound r) (d : Direction) where
   rounds_none n ws many full =
       record {
         long = ap length full ∙ length-replicate n endless ∙ many;
-        each = λ x h. record { exact = λ j l. (λ _. omega arith, λ _. subst (λ i. Has r d i x) {x = 0} (omega arith) (has_none r sound d x h)); few = inr (ap (λ l. get_or l x 0) full ∙ get_or-replicate n x endless 0 (omega arith)) };
+        each = λ x h. record { exact = λ j l. (λ _. omega arith, λ _. subst (λ i. Has r d i x) {x = 0} (omega arith) (has_none r rule d x h)); few = inr (ap (λ l. get_or l x 0) full ∙ get_or-replicate n x endless 0 (omega arith)) };
       }
 
   -- after a round that drops none, each pair that is left has any number of edges
@@ -136,8 +136,8 @@ module _ (r : Rule) (sound : Sound r) (d : Direction) where
         let is : get_or ws x 0 ≡ endless = ⊎_elim (λ l. absurd (omega arith)) (λ e. e) (before.each x h).few in
         subst (λ i. Has r d i x) {x = n + 1} (omega arith) (((after.each x h).exact (n + 1) (omega arith)).1 (omega arith))
     stays (suc m) x h has =
-        let (e, few, same, inside, rest) = edge_from_has r sound d (n + m) x (subst (λ i. Has r d i x) {y = (n + m) + 1} (omega arith) has) in
-        has_more r sound d (n + suc m) x e h few same (subst (λ i. Has r d i (neighbour_of r d x e)) {x = (n + m) + 1} (omega arith) (stays m (neighbour_of r d x e) inside rest))
+        let (e, few, same, inside, rest) = edge_from_has r rule d (n + m) x (subst (λ i. Has r d i x) {y = (n + m) + 1} (omega arith) has) in
+        has_more r rule d (n + suc m) x e h few same (subst (λ i. Has r d i (neighbour_of r d x e)) {x = (n + m) + 1} (omega arith) (stays m (neighbour_of r d x e) inside rest))
 
     for_ever : (m x : ℕ) → x < pairs_of r → Has r d n x → Has r d (n + m) x
     for_ever zero x h has = subst (λ i. Has r d i x) {x = n} (omega arith) has

@@ -4,7 +4,7 @@ use native.Mathlib.Nat.{one-le-pow, pow-zero}
 use Rattle.std.proofs.lemmas.Nat.{mul-le, mul-add-lt, div-add-mod', div_below, mod_below}
 use Rattle.std.proofs.lemmas.List.{drop-take, nil_from_length}
 use Rattle.std.proofs.ByRecursion.{All-take, All-drop}
-use Rattle.rules.specs.Rules.{Rule, Piece, Sound, digits, at, blocks_of, windows, next}
+use Rattle.rules.specs.Rules.{Rule, Piece, IsRule, Sound, digits, at, blocks_of, windows, next}
 use Rattle.theory.specs.Says.{OneNext}
 use Rattle.pairs.specs.Pairs.{pairs_of, block_at, pair_at, Walk}
 use Rattle.rules.proofs.Digits.{digits_lt, digits_front, digits_rest, same_quotient_rest, same_from_digits, piece_of}
@@ -26,15 +26,16 @@ lt_pow : (k n : ℕ) → 2 ≤ k → n < k ^ n
 lt_pow k zero h = rw pow-zero (omega arith)
 lt_pow k (suc n) h = rw pow-suc (omega (arith, lt_pow k n h, mul-le-mul_left {m = 2} {n = k} (k ^ n) h))
 
-module _ (r : Rule) (sound : Sound r) where
+-- a rule that is decided has few pairs, and a window of few cells
+pub pairs_le : (r : Rule) → Sound r → pairs_of r ≤ 256
+pairs_le r sound = mul-le (blocks_of r) (blocks_of r) 16 16 sound.small sound.small
+
+pub wide_le : (r : Rule) → Sound r → r.wide ≤ 16
+wide_le r sound = omega (arith, lt_pow r.kinds (r.wide - 1) sound.rule.formed.kinds, sound.small)
+
+module _ (r : Rule) (rule : IsRule r) where
   pub blocks_pos : 0 < blocks_of r
   blocks_pos = one-le-pow (r.wide - 1) r.kinds (omega arith)
-
-  pub pairs_le : pairs_of r ≤ 256
-  pairs_le = mul-le (blocks_of r) (blocks_of r) 16 16 sound.small sound.small
-
-  pub wide_le : r.wide ≤ 16
-  wide_le = omega (arith, lt_pow r.kinds (r.wide - 1) sound.kinds, sound.small)
 
   block_cells : (u : List ℕ) (i : ℕ) → Piece r u → Piece r (take (r.wide - 1) (drop i u))
   block_cells u i cells = All-take (λ c. c < r.kinds) (r.wide - 1) (drop i u) (All-drop (λ c. c < r.kinds) i u cells)

@@ -3,7 +3,7 @@ ghost use Rattle.std.specs.Prelude.{◌≡◌, ◌+◌, ◌*◌, ◌≤◌, leng
 ghost use Rattle.rules.specs.Local.{the_rule};
 ghost use Rattle.pairs.specs.Pairs.{pairs_of, Graph};
 
-use crate::graph::{Direction, PairGraph, pair_count};
+use crate::graph::{PairGraph, pair_count};
 use rules::sound::SoundRule;
 
 // For each pair how many edges can lie behind it, and how many before it. That the words are these is a clause (`Measured`) and
@@ -20,14 +20,7 @@ pub fn measure_pairs(rule: SoundRule, base: usize, work: &mut [u32])
     requires { (base + pairs_of (the_rule rule.local)) + pairs_of (the_rule rule.local) ≤ length work.old }
     ensures { Graph (the_rule rule.entry.local) base work.old work.new }
 {
-    let past = PairGraph {
-        rule,
-        direction: Direction::Past,
-    };
-    let future = PairGraph {
-        rule,
-        direction: Direction::Future,
-    };
+    let (past, future) = PairGraph::both_ways(rule);
     past.write_depths(base, work);
     future.write_depths(base + pair_count(rule), work);
 }

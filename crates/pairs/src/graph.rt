@@ -1,5 +1,6 @@
 // The edges of the pair graph, followed one way.
 ghost use Rattle.std.specs.Prelude.{◌≡◌, ℕ, ◌+◌, ◌*◌, ◌<◌, ◌≤◌, true, false, length, count_by, MatchOption, nat_eq};
+ghost use Rattle.pairs.specs.declared.graph.Direction.TheVariants.{Past, Future};
 ghost use Rattle.rules.specs.Local.{the_rule};
 ghost use Rattle.pairs.specs.Pairs.{pairs_of, endless, Depths, Writes, Rounds, widened, beyond, Edge, neighbour_of};
 ghost use Rattle.rules.specs.Rules.{blocks_of};
@@ -31,6 +32,24 @@ pub fn pair_count(rule: SoundRule) -> usize
 pub struct PairGraph<'a> {
     pub rule: SoundRule<'a>,
     pub direction: Direction,
+}
+
+impl<'a> PairGraph<'a> {
+    // The pair graph of a rule, followed back and followed on.
+    pub fn both_ways(rule: SoundRule<'a>) -> (PairGraph<'a>, PairGraph<'a>)
+        ensures past { result.0 ≡ record { rule = rule.entry; direction = Past } }
+        ensures future { result.1 ≡ record { rule = rule.entry; direction = Future } }
+    {
+        let past = PairGraph {
+            rule,
+            direction: Direction::Past,
+        };
+        let future = PairGraph {
+            rule,
+            direction: Direction::Future,
+        };
+        (past, future)
+    }
 }
 
 impl PairGraph<'_> {

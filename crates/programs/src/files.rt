@@ -1,4 +1,8 @@
 // Files that are written whole, or not at all.
+ghost use Rattle.std.specs.Prelude.{◌≡◌, MatchResult};
+ghost use Rattle.faults.specs.declared.fault.Fault.TheVariants.{Memory as no_memory};
+ghost use Rattle.programs.specs.Beside.{Beside};
+
 use faults::fault::Fault;
 use faults::no_words::NoWords;
 use std::alloc::Global;
@@ -100,8 +104,11 @@ fn unwritten(heap: Global, name: &str, e: io::Error) -> Result<Fault, Fault> {
     Ok(Fault::Unwritten(String::from_str(heap, name)?, e))
 }
 
-/// An option --svg before the rule takes the rule's first word for its file, where it has none of its own. Too few words are left then.
-pub fn beside_file(heap: Global, fault: Fault, file: &str) -> Result<Fault, Fault> {
+/// An option --svg before the rule takes the rule's first word for its file, where it has none of its own. Too few words are
+/// left then.
+pub fn beside_file(heap: Global, fault: Fault, file: &str) -> Result<Fault, Fault>
+    ensures { MatchResult result (Beside fault file.now) (λ e. e ≡ no_memory) }
+{
     match fault {
         Fault::NoRule(NoWords::Few(rest))
         | Fault::NotRun(NoWords::Few(rest))

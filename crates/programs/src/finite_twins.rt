@@ -1,4 +1,8 @@
 // The command `finite`: two rows that differ at finitely many places and have one next row, and a picture of them.
+ghost use Rattle.finite.specs.declared.Finite.TheVariants.{Twins};
+ghost use Rattle.questions.specs.Answered.{IsFound};
+ghost use Rattle.rules.specs.Rules.{rule_of};
+
 use crate::rule_lines::answer_lines;
 use crate::texts::read_table;
 use answers::endless::two_rows;
@@ -33,7 +37,10 @@ fn find_one(rt: &HostRuntime, mut words: Vec<String>, picture: bool) -> Result<(
     }
 }
 
-fn draw_rows(rt: &HostRuntime, found: &FoundTwins, lengths: Lengths) -> Result<(), Fault> {
+// Draws the rows, whose parts have these lengths.
+fn draw_rows(rt: &HostRuntime, found: &FoundTwins, lengths: Lengths) -> Result<(), Fault>
+    requires { IsFound (rule_of found.now.given.kinds found.now.given.wide found.now.given.table.items) found.now.workspace.out.items (Twins lengths.left lengths.mid lengths.right) }
+{
     println!(rt)?;
     let (first, second) = two_rows(lengths, found.workspace.told());
     let mut terminal = Terminal { rt };

@@ -1,5 +1,5 @@
 // Lines of standard input, each held in at most so many bytes.
-ghost use Rattle.std.specs.Prelude.{◌≡◌, ◌≤◌, ◌∷◌, ◌++◌, [], ◌+◌, true, false, vec_len, Decides, OnOk, IfOk};
+ghost use Rattle.std.specs.Prelude.{◌≡◌, ◌≤◌, ◌∷◌, ◌++◌, [], ◌+◌, true, false, map, string_bytes, vec_len, Decides, MatchResult, OnOk, OnErr, is_ok};
 
 use faults::fault::Fault;
 use reading::words::{join_words, split_words};
@@ -19,6 +19,9 @@ pub struct Line {
 }
 
 impl Line {
+    ghost use Rattle.programs.specs.Lines.{IsText, Wordless};
+    ghost use Rattle.reading.specs.Split.{WordsOf};
+
     pub fn new(heap: Global) -> Line
         ensures bytes { result.bytes.items ≡ [] }
         ensures long { result.long ≡ false }
@@ -44,8 +47,9 @@ impl Line {
     }
 
     pub fn push(&mut self, byte: u8) -> Result<(), AllocFailed<u8>>
-        ensures full { vec_len self.old.bytes ≡ 4096 → (self.new.bytes.items ≡ self.old.bytes.items) × (self.new.long ≡ true) }
+        ensures full { vec_len self.old.bytes ≡ 4096 → (is_ok result ≡ true) × (self.new.bytes.items ≡ self.old.bytes.items) × (self.new.long ≡ true) }
         ensures room { OnOk result (vec_len self.old.bytes + 1 ≤ 4096 → (self.new.bytes.items ≡ self.old.bytes.items ++ byte ∷ []) × (self.new.long ≡ self.old.long)) }
+        ensures refused { OnErr result ((self.new.bytes.items ≡ self.old.bytes.items) × (self.new.long ≡ self.old.long)) }
     {
         if self.bytes.len() == MOST_BYTES {
             self.long = true;
@@ -56,7 +60,9 @@ impl Line {
 
     // The words of the line.
     pub fn words(&self, heap: Global) -> Result<Vec<String>, Fault>
-        ensures { IfOk result (λ _. self.now.long ≡ false) }
+        ensures { MatchResult result
+            (λ v. IsText self.now × WordsOf self.now.bytes.items (map string_bytes v.items))
+            (Wordless self.now) }
     {
         if self.long {
             return Err(Fault::LongLine);

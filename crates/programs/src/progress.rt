@@ -1,5 +1,5 @@
 // How far a long run is, on standard error where that is a terminal.
-ghost use Rattle.std.specs.Prelude.{◌≡◌};
+ghost use Rattle.std.specs.Prelude.{◌≡◌, IfOk};
 
 use faults::fault::Fault;
 use running::output::Rows;
@@ -29,12 +29,9 @@ pub struct Watched<'a, R> {
 
 impl<'a, R: Rows + Drop> Watched<'a, R> {
     /// Rows of so many seconds. It is told only where it shows.
-    pub fn new(
-        rt: &'a HostRuntime,
-        rows: R,
-        shows: bool,
-        steps: u64,
-    ) -> io::Result<Watched<'a, R>> {
+    pub fn new(rt: &'a HostRuntime, rows: R, shows: bool, steps: u64) -> io::Result<Watched<'a, R>>
+        ensures { IfOk result (λ watched. watched.rows ≡ rows) }
+    {
         Ok(Watched {
             rt,
             rows,
@@ -48,7 +45,9 @@ impl<'a, R: Rows + Drop> Watched<'a, R> {
     }
 
     /// Ends the line that tells how far the run is, and gives the rows.
-    pub fn finish(self) -> io::Result<R> {
+    pub fn finish(self) -> io::Result<R>
+        ensures { IfOk result (λ rows. rows ≡ self.entry.rows) }
+    {
         if self.told {
             eprintln!(self.rt)?;
         }

@@ -2,7 +2,8 @@
 use Rattle.std.specs.Prelude.{◌≡◌, ℕ, List, length}
 use Rattle.faults.specs.declared.fault.Fault.{Fault}
 use Rattle.faults.specs.declared.fault.Fault.TheVariants.{NoRule, Memory}
-use Rattle.reading.specs.Words.{Means, NotMeant}
+use Rattle.reading.specs.Words.{Means}
+use Rattle.reading.specs.Wrong.{MeansNone}
 use Rattle.finite.specs.Told.{Answer as FiniteAnswer}
 use Rattle.finite.specs.declared.Finite.{Finite}
 use Rattle.rules.specs.Rules.{Rule}
@@ -13,9 +14,10 @@ use Rattle.undone.specs.declared.Decided.{Decided}
 abbrev pub Line : (Rule → List ℕ → Type 0) → List (List ℕ) → List ℕ → Type 0
 Line says ws s = (r : Rule) × Means ws r × says r s
 
--- why words are not answered: they mean no rule at all; or memory ran out, which says nothing of them
+-- why words are not answered: they mean no rule at all, and what is told is the first thing that is wrong with them; or memory
+-- ran out, which says nothing of them
 abbrev pub Unanswered : List (List ℕ) → Fault → Type 0
-Unanswered ws (NoRule w) = NotMeant (Means ws) w
+Unanswered ws (NoRule w) = MeansNone ws w
 Unanswered ws Memory = Unit {0}
 Unanswered ws _ = ⊥
 

@@ -17,6 +17,9 @@ pub fn answer_words<A: AnswersRules>(
         (λ s. Line A.says (map string_bytes words.now) (string_bytes s))
         (Unanswered (map string_bytes words.now)) }
 {
-    let given = parse_rule(heap, words).map_err(Fault::NoRule)?;
+    let given = match parse_rule(heap, words) {
+        Ok(given) => given,
+        Err(reason) => return Err(Fault::NoRule(reason)),
+    };
     answers.answer(heap, &given).map_err(|_| Fault::Memory)
 }

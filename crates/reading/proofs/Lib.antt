@@ -1,3 +1,4 @@
 pub mod One
 pub mod Refused
 pub mod Shapes
+pub mod Spaced

@@ -8,7 +8,7 @@ use Rattle.reading.specs.declared.rules_in_words.Use.{Use}
 use Rattle.reading.specs.declared.rules_in_words.Use.TheVariants.{Decision, WayBack}
 use Rattle.rules.specs.Checks.{BadSize, Unfit}
 use Rattle.rules.specs.declared.rule.NoRule.TheVariants.{Large}
-use Rattle.rules.specs.Rules.{Rule, Formed, Sound}
+use Rattle.rules.specs.Rules.{Rule, Runnable, Sound}
 use Rattle.text.specs.Parsed.{Reads}
 use Rattle.wolfram.specs.Numbers.{Digits}
 
@@ -45,11 +45,10 @@ InWords (a ∷ b ∷ c ∷ []) r = Typed a b c r
 InWords (w ∷ a ∷ b ∷ n ∷ []) r = (w ≡ codes "wolfram") × Numbered a b n r
 InWords (w ∷ a ∷ b ∷ n ∷ x ∷ ws) r = ⊥
 
--- a table that can be run on a ring as a way back: of kinds that have a digit, and of windows that are not too many
+-- a table that can be run on a ring as a way back, of kinds that have a digit
 pub record Runs (r : Rule) : Type 0 where
-  pub formed : Formed r
+  pub runnable : Runnable r
   pub digits : r.kinds ≤ 16
-  pub few : r.kinds ^ r.wide ≤ 262144
 
 -- r serves for what it is read for
 abbrev pub Serves : Use → Rule → Type 0
@@ -103,5 +102,5 @@ RuleRefused k m t _ = ⊥
 -- a table t of k kinds and width m is no way back that can be run, and why
 abbrev pub WayBackRefused : ℕ → ℕ → List ℕ → NoWords → Type 0
 WayBackRefused k m t (Table b) =
-    (b.kinds ≡ k) × (b.wide ≡ m) × (Unfit 1 262144 k m t b.reason ⊎ ((16 < k) × (b.reason ≡ Large)))
+    (b.kinds ≡ k) × (b.wide ≡ m) × (((k ≤ 16) × Unfit 1 262144 k m t b.reason) ⊎ ((16 < k) × (b.reason ≡ Large)))
 WayBackRefused k m t _ = ⊥

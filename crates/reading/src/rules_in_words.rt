@@ -1,8 +1,9 @@
 // A rule in words: KINDS WIDTH TABLE, wolfram N, or wolfram KINDS WIDTH N. A way back is given in the same words.
 ghost use Rattle.std.proofs.Props.{props};
-ghost use Rattle.std.specs.Prelude.{◌≡◌, ◌^◌, ◌↔◌, codes, map, string_bytes, IsTrue, MatchResult};
+ghost use Rattle.std.specs.Prelude.{◌≡◌, ◌^◌, ◌↔◌, codes, map, string_bytes, IfErr, IsTrue, MatchResult};
 ghost use Rattle.reading.specs.Words.{Elementary, InWords, Means, MeansBack, NotMeant, Numbered, RuleRefused, Runs, Serves};
 ghost use Rattle.reading.specs.Words.{Sized, SizeRefused, Typed, WayBackRefused};
+ghost use Rattle.reading.specs.Wrong.{ElementaryTold, MeansNone, MeansNoneBack, NumberedTold, TypedTold, Unread};
 ghost use Rattle.rules.specs.Local.{the_rule};
 ghost use Rattle.rules.specs.Rules.{rule_of, Sound};
 
@@ -67,7 +68,7 @@ enum Use {
 pub fn parse_rule(heap: Global, words: &[String]) -> Result<GivenRule, NoWords>
     ensures { MatchResult result
         (λ g. Means (map string_bytes words.now) (rule_of g.kinds g.wide g.table.items))
-        (NotMeant (Means (map string_bytes words.now))) }
+        (MeansNone (map string_bytes words.now)) }
 {
     let ReadTable { kinds, wide, table } = parse_table(heap, words, Use::Decision)?;
     new_rule(kinds, wide, table)
@@ -77,16 +78,17 @@ pub fn parse_rule(heap: Global, words: &[String]) -> Result<GivenRule, NoWords>
 pub fn parse_way_back(heap: Global, words: &[String]) -> Result<GivenTable, NoWords>
     ensures { MatchResult result
         (λ g. MeansBack (map string_bytes words.now) (rule_of g.kinds g.wide g.table.items))
-        (NotMeant (MeansBack (map string_bytes words.now))) }
+        (MeansNoneBack (map string_bytes words.now)) }
 {
     let ReadTable { kinds, wide, table } = parse_table(heap, words, Use::WayBack)?;
     new_way_back(kinds, wide, table)
 }
 
 fn parse_table(heap: Global, words: &[String], purpose: Use) -> Result<ReadTable, NoWords>
-    ensures { MatchResult result
+    ensures read { MatchResult result
         (λ t. InWords (map string_bytes words.now) (rule_of t.kinds t.wide t.table.items))
         (NotMeant (λ r. InWords (map string_bytes words.now) r × Serves purpose r)) }
+    ensures told { IfErr result (Unread purpose (map string_bytes words.now)) }
 {
     match words {
         [name, number] if is_wolfram(name.as_str()) => elementary_table(heap, number.as_str()),
@@ -114,9 +116,10 @@ fn is_wolfram(word: &str) -> bool
 }
 
 fn typed_table(heap: Global, kinds: &str, wide: &str, cells: &str) -> Result<ReadTable, NoWords>
-    ensures { MatchResult result
+    ensures read { MatchResult result
         (λ t. Typed kinds.now wide.now cells.now (rule_of t.kinds t.wide t.table.items))
         (NotMeant (Typed kinds.now wide.now cells.now)) }
+    ensures told { IfErr result (TypedTold kinds.now wide.now cells.now) }
 {
     let kinds = number(heap, Name::Kinds, kinds)?;
     let wide = number(heap, Name::Width, wide)?;
@@ -125,9 +128,10 @@ fn typed_table(heap: Global, kinds: &str, wide: &str, cells: &str) -> Result<Rea
 }
 
 fn elementary_table(heap: Global, number: &str) -> Result<ReadTable, NoWords>
-    ensures { MatchResult result
+    ensures read { MatchResult result
         (λ t. Elementary number.now (rule_of t.kinds t.wide t.table.items))
         (NotMeant (Elementary number.now)) }
+    ensures told { IfErr result (ElementaryTold number.now) }
 {
     match number_digits(heap, ELEMENTARY_KINDS, 8, number) {
         Ok(table) => Ok(ReadTable {
@@ -147,9 +151,10 @@ fn numbered_table(
     number_word: &str,
     purpose: Use,
 ) -> Result<ReadTable, NoWords>
-    ensures { MatchResult result
+    ensures read { MatchResult result
         (λ t. Numbered kinds.now wide.now number_word.now (rule_of t.kinds t.wide t.table.items))
         (NotMeant (λ r. Numbered kinds.now wide.now number_word.now r × Serves purpose r)) }
+    ensures told { IfErr result (NumberedTold purpose kinds.now wide.now number_word.now) }
 {
     let kinds = number(heap, Name::Kinds, kinds)?;
     let wide = number(heap, Name::Width, wide)?;

@@ -1,5 +1,7 @@
 // Words, and the numbers in them.
-ghost use Rattle.std.specs.Prelude.{Ok, MatchResult};
+ghost use Rattle.std.specs.List.{join_with_byte};
+ghost use Rattle.std.specs.Prelude.{◌≡◌, map, string_bytes, Ok, IfOk, MatchResult};
+ghost use Rattle.reading.specs.Split.{WordsOf};
 ghost use Rattle.reading.specs.Words.{Unparsed};
 
 use faults::name::Name;
@@ -8,22 +10,23 @@ use std::alloc::{AllocError, Global};
 use std::str::FromStr;
 
 /// The words of a line, between any white space.
-pub fn split_words(heap: Global, line: &str) -> Result<Vec<String>, AllocError> {
-    line.split_whitespace()
-        .map(|word| String::from_str(heap, word))
-        .try_collect(heap)
+pub fn split_words(heap: Global, line: &str) -> Result<Vec<String>, AllocError>
+    ensures { IfOk result (λ v. WordsOf line.now (map string_bytes v.items)) }
+{
+    let mut words = Vec::new(heap);
+    // A `for`: a chain that is collected says what each word is, and not that none is missed.
+    for word in line.split_whitespace() {
+        words.push(String::from_str(heap, word)?)?;
+    }
+    Ok(words)
 }
 
 /// The words with a space between any two.
-pub fn join_words(heap: Global, words: &[String]) -> Result<String, AllocError> {
-    let mut joined = String::new(heap);
-    for word in words {
-        if !joined.is_empty() {
-            joined.push(' ')?;
-        }
-        joined.push_str(word.as_str())?;
-    }
-    Ok(joined)
+#[tactic(auto, using(crate::proofs::Spaced::spaced))]
+pub fn join_words(heap: Global, words: &[String]) -> Result<String, AllocError>
+    ensures { IfOk result (λ s. string_bytes s ≡ join_with_byte 32 (map string_bytes words.now)) }
+{
+    words.join(heap, " ")
 }
 
 /// The whole number that a word is.

@@ -1,7 +1,8 @@
 #![tactic(auto)]
 
 // Pictures of the reasons for answers.
-ghost use Rattle.std.specs.Prelude.{ℕ, List};
+ghost use Rattle.std.specs.Prelude.{ℕ, List, IfErr};
+ghost use Rattle.faults.specs.Failure.{Failure};
 ghost use Rattle.undone.specs.Decided.{Answer};
 ghost use Rattle.rules.specs.Local.{the_rule};
 
@@ -27,7 +28,7 @@ use twins::Lengths;
 use two_rows::draw_two_rows;
 use undone::Decided;
 
-// Draws the reason for an answer, whose cells stand first in `out`.
+// Draws the reason for an answer, whose cells stand first in `out`. Only a failure stops it.
 pub fn draw<C: Canvas>(
     heap: Global,
     canvas: &mut C,
@@ -36,6 +37,7 @@ pub fn draw<C: Canvas>(
     out: &[u32],
 ) -> Result<(), Fault>
     requires { (o : List ℕ) × Answer (the_rule rule.local) o out.now decided }
+    ensures { IfErr result Failure }
 {
     match decided {
         Decided::Undone(width, place) => {

@@ -1,6 +1,7 @@
 // The plaque of a rule: the rule, its answer in one sentence, and the picture of the reason, as a drawing.
-ghost use Rattle.std.specs.Prelude.{List, ℕ};
-ghost use Rattle.rules.specs.Rules.{rule_of};
+ghost use Rattle.std.specs.Prelude.{◌≤◌, List, ℕ, IfErr, MatchResult};
+ghost use Rattle.faults.specs.Failure.{Failure, NotShown};
+ghost use Rattle.rules.specs.Rules.{rule_of, Cells};
 ghost use Rattle.undone.specs.Decided.{Answer};
 
 use crate::canvas::Canvas;
@@ -42,6 +43,7 @@ pub fn draw_plaque(
     out: &[u32],
 ) -> Result<Vec<u8>, Fault>
     requires { (o : List ℕ) × Answer (rule_of given.now.kinds given.now.wide given.now.table.items) o out.now decided }
+    ensures { IfErr result Failure }
 {
     let rule = given.rule();
     let name = rule_name(heap, given)?;
@@ -77,7 +79,9 @@ impl Plaque {
     }
 
     // The file, whose height is known now.
-    fn finish(mut self, title: &str) -> Result<Vec<u8>, Fault> {
+    fn finish(mut self, title: &str) -> Result<Vec<u8>, Fault>
+        ensures { IfErr result Failure }
+    {
         self.leave(LINE);
         let mut file = Drawing::new(Vec::new(self.heap));
         file.begin(WIDTH, self.bottom, title)?;
@@ -92,13 +96,17 @@ impl Plaque {
         top
     }
 
-    fn heading(&mut self, words: &str) -> Result<(), Fault> {
+    fn heading(&mut self, words: &str) -> Result<(), Fault>
+        ensures { IfErr result Failure }
+    {
         self.leave(LINE);
         Ok(self.drawn.heading(LEFT, self.bottom, words)?)
     }
 
     // Cells side by side, between a label and a note.
-    fn strip(&mut self, label: &str, cells: &[u32], size: usize, note: &str) -> Result<(), Fault> {
+    fn strip(&mut self, label: &str, cells: &[u32], size: usize, note: &str) -> Result<(), Fault>
+        ensures { MatchResult result (λ _. Cells 16 cells.now) (NotShown cells.now) }
+    {
         self.coloured = true;
         let n = cells.len();
         let top = self.leave(size);
@@ -111,7 +119,9 @@ impl Plaque {
     }
 
     // Marks in a row of a group, which are cells to a drawing.
-    fn marked(&mut self, marks: &[bool]) -> Result<(), Fault> {
+    fn marked(&mut self, marks: &[bool]) -> Result<(), Fault>
+        ensures { IfErr result Failure }
+    {
         let cells = marks
             .iter()
             .map(|&mark| u32::from(mark))
@@ -120,7 +130,9 @@ impl Plaque {
     }
 
     // Words on both sides of what was drawn last, which is so wide.
-    fn beside(&mut self, label: &str, width: usize, note: &str) -> Result<(), Fault> {
+    fn beside(&mut self, label: &str, width: usize, note: &str) -> Result<(), Fault>
+        ensures { IfErr result Failure }
+    {
         let line = self.bottom.saturating_sub(ABOVE);
         let behind = STRIP.saturating_add(width).saturating_add(GAP);
         self.drawn.words(LEFT, line, label)?;
@@ -128,7 +140,10 @@ impl Plaque {
     }
 
     // The colours of the kinds.
-    fn legend(&mut self, kinds: u32) -> Result<(), Fault> {
+    fn legend(&mut self, kinds: u32) -> Result<(), Fault>
+        requires { kinds ≤ 16 }
+        ensures { IfErr result Failure }
+    {
         let cells = (0..kinds).collect::<Vec<u32>>(self.heap)?;
         let digits = (0..kinds as usize).collect::<Vec<usize>>(self.heap)?;
         self.leave(LINE);

@@ -1,5 +1,6 @@
 // The blocks that preimages of each prefix of an orphan can end with, from all of them down to none.
-ghost use Rattle.std.specs.Prelude.{◌≡◌, ◌^◌, ◌<◌, length};
+ghost use Rattle.std.specs.Prelude.{◌≡◌, ◌^◌, ◌<◌, length, IfErr};
+ghost use Rattle.faults.specs.Failure.{Failure};
 ghost use Rattle.rules.specs.Local.{the_rule};
 ghost use Rattle.rules.specs.Rules.{Cells, Piece};
 
@@ -27,6 +28,7 @@ pub fn draw_prefixes<C: Canvas>(
     piece: &[u32],
 ) -> Result<(), Fault>
     requires { Piece (the_rule rule.local) piece.now }
+    ensures { IfErr result Failure }
 {
     let windows = rule.local.blocks() * rule.local.kinds() as usize;
     let mut masks = vec![in heap; 0; windows]?;
@@ -37,7 +39,9 @@ pub fn draw_prefixes<C: Canvas>(
 }
 
 // The blocks side by side, the cells of each written downwards.
-fn draw_blocks<C: Canvas>(heap: Global, canvas: &mut C, rule: LocalRule) -> Result<(), Fault> {
+fn draw_blocks<C: Canvas>(heap: Global, canvas: &mut C, rule: LocalRule) -> Result<(), Fault>
+    ensures { IfErr result Failure }
+{
     canvas.words("Blocks, written downwards, that a preimage of the first cells can end with:")?;
     for place in (0..rule.wide() - 1).rev() {
         let digits = block_digits(heap, rule, place)?;
@@ -64,6 +68,7 @@ fn draw_sets<C: Canvas>(
     piece: &[u32],
 ) -> Result<(), Fault>
     requires { Cells subsets.rule.kinds piece.now }
+    ensures { IfErr result Failure }
 {
     let mut set = subsets.start();
     let blocks = members(heap, subsets.blocks(), set)?;
@@ -91,7 +96,9 @@ fn draw_set<C: Canvas>(
     cells: usize,
     last: u32,
     members: &[bool],
-) -> Result<(), Fault> {
+) -> Result<(), Fault>
+    ensures { IfErr result Failure }
+{
     let left = all.saturating_sub(cells);
     if all > MOST_LINES && cells > FIRST_LINES && left >= LAST_LINES {
         if left == LAST_LINES {

@@ -1,4 +1,9 @@
 // A rule, and its answer, in a line of words each, for people who read no tables.
+ghost use Rattle.std.specs.Prelude.{ℕ, List, IfErr};
+ghost use Rattle.faults.specs.Failure.{Failure, NotShown};
+ghost use Rattle.rules.specs.Rules.{Rule, Sound};
+ghost use Rattle.undone.specs.Decided.{Answer};
+
 use answers::endless::split_front;
 use answers::given::GivenRule;
 use faults::fault::Fault;
@@ -10,15 +15,20 @@ use undone::Decided;
 const MOST_CELLS: usize = 64;
 
 // A rule by its kinds, its width and its table.
-pub fn rule_name(heap: Global, given: &GivenRule) -> Result<String, Fault> {
+pub fn rule_name(heap: Global, given: &GivenRule) -> Result<String, Fault>
+    ensures { IfErr result Failure }
+{
     let wide = given.rule().local.wide();
     let mut name = format!(in heap; "Rule {} {wide} ", given.kinds())?;
     add_cells(&mut name, given.table())?;
     Ok(name)
 }
 
-// The answer, whose cells stand first in `out`.
-pub fn sentence(heap: Global, decided: Decided, out: &[u32]) -> Result<String, Fault> {
+// The answer to a rule, whose cells stand first in `out`.
+pub fn sentence(heap: Global, decided: Decided, out: &[u32]) -> Result<String, Fault>
+    requires { (r : Rule) × Sound r × ((o : List ℕ) × Answer r o out.now decided) }
+    ensures { IfErr result Failure }
+{
     match decided {
         Decided::Undone(width, place) | Decided::UndoneFull(width, place) => Ok(way_back(
             heap, width, place,
@@ -50,7 +60,9 @@ fn way_back(heap: Global, width: u32, place: u32) -> Result<String, AllocError> 
     )
 }
 
-fn add_cells(line: &mut String, cells: &[u32]) -> Result<(), Fault> {
+fn add_cells(line: &mut String, cells: &[u32]) -> Result<(), Fault>
+    ensures { IfErr result (NotShown cells.now) }
+{
     let (shown, rest) = split_front(cells, MOST_CELLS);
     write_cells(line, Alphabet::Digits, shown)?;
     if !rest.is_empty() {

@@ -1,6 +1,13 @@
 // Two rows around their middles, the cells that differ, and the one next row of both.
+ghost use Rattle.std.specs.Prelude.{◌≡◌, ◌≤◌, ℕ, take, IfErr, IfOk};
+ghost use Rattle.answers.specs.Endless.{row_of};
+ghost use Rattle.faults.specs.Failure.{Failure};
+ghost use Rattle.rules.specs.Local.{the_rule};
+ghost use Rattle.rules.specs.Rules.{Cells, Piece, part};
+ghost use Rattle.theory.specs.Says.{FiniteTwins, SameNext};
+
 use crate::canvas::Canvas;
-use answers::endless::EndlessRow;
+use answers::endless::{EndlessRow, split_front};
 use faults::fault::Fault;
 use rows::next::next_cells;
 use rules::local::LocalRule;
@@ -62,15 +69,13 @@ impl View {
     }
 
     // The cells that are shown of a row, and so many behind them.
-    fn cells(self, heap: Global, row: EndlessRow, behind: usize) -> Result<Vec<u32>, AllocError> {
+    fn cells(self, heap: Global, row: EndlessRow, behind: usize) -> Result<Vec<u32>, AllocError>
+        ensures { IfOk result (λ v. (k : ℕ) → Cells k (part (row_of row.entry) self.copies) → Cells k v.items) }
+    {
         let piece = row.piece(heap, self.copies)?;
-        piece
-            .as_slice()
-            .iter()
-            .skip(self.start)
-            .take(COLUMNS.saturating_add(behind))
-            .copied()
-            .collect(heap)
+        let (_, cells) = split_front(piece.as_slice(), self.start);
+        let (shown, _) = split_front(cells, COLUMNS.saturating_add(behind));
+        shown.to_vec(heap)
     }
 
     // Which columns are of the middle.
@@ -91,7 +96,11 @@ pub fn draw_two_rows<C: Canvas>(
     rule: LocalRule,
     first: EndlessRow,
     second: EndlessRow,
-) -> Result<(), Fault> {
+) -> Result<(), Fault>
+    requires digits { rule.kinds ≤ 16 }
+    requires rows { SameNext (the_rule rule) (row_of first) (row_of second) }
+    ensures { IfErr result Failure }
+{
     let view = View::around_middle(first, second);
     draw_view(heap, canvas, rule, view, first, second)?;
     match view.hidden() {
@@ -110,7 +119,11 @@ pub fn draw_between_blocks<C: Canvas>(
     rule: LocalRule,
     first: EndlessRow,
     second: EndlessRow,
-) -> Result<(), Fault> {
+) -> Result<(), Fault>
+    requires digits { rule.kinds ≤ 16 }
+    requires rows { FiniteTwins (the_rule rule) (row_of first) (row_of second) }
+    ensures { IfErr result Failure }
+{
     draw_view(
         heap,
         canvas,
@@ -137,7 +150,12 @@ fn draw_view<C: Canvas>(
     view: View,
     first: EndlessRow,
     second: EndlessRow,
-) -> Result<(), Fault> {
+) -> Result<(), Fault>
+    requires digits { rule.kinds ≤ 16 }
+    requires one { Piece (the_rule rule) (part (row_of first) view.copies) }
+    requires other { Piece (the_rule rule) (part (row_of second) view.copies) }
+    ensures { IfErr result Failure }
+{
     let behind = rule.wide() as usize - 1;
     let one = view.cells(heap, first, behind)?;
     let other = view.cells(heap, second, behind)?;
@@ -152,8 +170,11 @@ fn draw_view<C: Canvas>(
 }
 
 // The cells before those that only the next row looks at.
-fn shown(cells: &[u32]) -> &[u32] {
-    &cells[0..cells.len().min(COLUMNS)]
+fn shown(cells: &[u32]) -> &[u32]
+    ensures { result.now ≡ take 64 cells.now }
+{
+    let (shown, _) = split_front(cells, COLUMNS);
+    shown
 }
 
 // Which of the columns differ.

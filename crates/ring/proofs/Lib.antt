@@ -4,3 +4,4 @@ pub mod Rolling
 pub mod Shifting
 pub mod Turns
 pub mod Rings
+pub mod Later

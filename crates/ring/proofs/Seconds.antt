@@ -3,7 +3,6 @@ use Rattle.std.proofs.Common.{◌≡◌, ℕ, zero, suc, ◌+◌, ◌-◌, ◌%�
 use native.Mathlib.Nat.{add-mod-mod, add-mod_left}
 use Rattle.rules.specs.Rules.{Rule, rule_of, Formed, Piece, at, next}
 use Rattle.rules.proofs.Next.{length-next, get_or-next, piece_next}
-use Rattle.rules.proofs.Tables.{formed_from_sound}
 use Rattle.theory.proofs.Undone.{both_ways}
 use Rattle.ring.specs.Ring.{unrolled, start, ring_from, ring, rings, ComesBack, GoesAgain, RoundTrips}
 use Rattle.ring.proofs.Unrolled.{length-unrolled, get_or-unrolled, unrolled_ext, take-drop-unrolled, unrolled_mod, cells_unrolled}
@@ -124,22 +123,22 @@ module _ (a b : Rule) (p o : ℕ) (formed : Formed a) (wide : 1 ≤ b.wide) (ins
       rings_first b o s (ring a p x) ∙ ap (rings b o s) (undone_once x (piece_rings a p formed s u cells) (omega arith)) ∙ undone_rings s u cells some
 
 comes_back : ComesBack
-comes_back r v o t u sound back cells some s =
-    undone_rings r (rule_of r.kinds v t) 0 o (formed_from_sound sound) back.wide (omega (arith, back.inside)) (λ w cells_w long. back.back w cells_w long ∙ ap (λ j. get_or w j 0) (sym (zero-add o))) s u cells some
+comes_back r v o t u rule back cells some s =
+    undone_rings r (rule_of r.kinds v t) 0 o rule.formed back.wide (omega (arith, back.inside)) (λ w cells_w long. back.back w cells_w long ∙ ap (λ j. get_or w j 0) (sym (zero-add o))) s u cells some
 
 -- what comes of one window is its next row
 at_next : (r : Rule) (w : List ℕ) → length w ≡ r.wide → at r w ≡ get_or (next r w) 0 0
 at_next r w long = sym (get_or-next r w 0 (omega arith) ∙ ap (at r) (take_all r.wide w (omega arith)))
 
 goes_again : GoesAgain
-goes_again r v o t u sound back cells some s =
-    undone_rings b r o 0 formed (omega arith) (omega (arith, back.inside)) (λ w cells_w long. at_next r (next b w) (omega (arith, length-next b w)) ∙ ap (λ y. get_or y 0 0) (both_ways r v o t sound back w cells_w (omega arith)) ∙ ap (λ j. get_or w j 0) (sym (add-zero o))) s u cells some
+goes_again r v o t u rule back cells some s =
+    undone_rings b r o 0 formed (omega arith) (omega (arith, back.inside)) (λ w cells_w long. at_next r (next b w) (omega (arith, length-next b w)) ∙ ap (λ y. get_or y 0 0) (both_ways r v o t rule back w cells_w (omega arith)) ∙ ap (λ j. get_or w j 0) (sym (add-zero o))) s u cells some
   where
     b : Rule
     b = rule_of r.kinds v t
 
     formed : Formed b
-    formed = record { kinds = sound.kinds; wide = back.wide; full = back.full; cells = back.cells }
+    formed = record { kinds = rule.formed.kinds; wide = back.wide; full = back.full; cells = back.cells }
 
 pub round_trips : RoundTrips
 round_trips = record { comes_back = comes_back; goes_again = goes_again }

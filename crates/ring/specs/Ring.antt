@@ -1,6 +1,6 @@
 -- Rules on rows in a ring, where each cell looks round the ring, more than once where the ring is shorter than a window.
 use Rattle.std.specs.Prelude.{◌≡◌, ℕ, zero, suc, ◌+◌, ◌-◌, ◌%◌, ◌<◌, List, length, take, drop}
-use Rattle.rules.specs.Rules.{Rule, rule_of, Sound, Piece, digits, blocks_of, next, copies}
+use Rattle.rules.specs.Rules.{Rule, rule_of, IsRule, Piece, digits, blocks_of, next, copies}
 use Rattle.theory.specs.Says.{Back}
 
 -- the lowest digits of a number are those of a block, whatever stands above them
@@ -33,11 +33,11 @@ rings r o (suc s) u = ring r o (rings r o s u)
 
 -- a way back undoes the rule on a ring of any length: as many seconds of it after those of the rule give the row itself
 abbrev pub ComesBack : Type 0
-ComesBack = (r : Rule) (v o : ℕ) (t u : List ℕ) → Sound r → Back r v o t → Piece r u → 0 < length u → (s : ℕ) → rings (rule_of r.kinds v t) o s (rings r 0 s u) ≡ u
+ComesBack = (r : Rule) (v o : ℕ) (t u : List ℕ) → IsRule r → Back r v o t → Piece r u → 0 < length u → (s : ℕ) → rings (rule_of r.kinds v t) o s (rings r 0 s u) ≡ u
 
 -- and the rule undoes the way back
 abbrev pub GoesAgain : Type 0
-GoesAgain = (r : Rule) (v o : ℕ) (t u : List ℕ) → Sound r → Back r v o t → Piece r u → 0 < length u → (s : ℕ) → rings r 0 s (rings (rule_of r.kinds v t) o s u) ≡ u
+GoesAgain = (r : Rule) (v o : ℕ) (t u : List ℕ) → IsRule r → Back r v o t → Piece r u → 0 < length u → (s : ℕ) → rings r 0 s (rings (rule_of r.kinds v t) o s u) ≡ u
 
 -- the theorems about rings
 pub record RoundTrips : Type 0 where

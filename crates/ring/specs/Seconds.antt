@@ -1,11 +1,17 @@
 -- Seconds that are run in lent cells.
 use Rattle.std.specs.Prelude.{◌≡◌, ℕ, zero, suc, ◌%◌, ◌<◌, List, length, ◌≢◌}
-use Rattle.rules.specs.Rules.{Rule, Stray}
+use Rattle.rules.specs.Rules.{Rule, Piece, Stray}
 use Rattle.ring.specs.declared.Held.{Held}
 use Rattle.ring.specs.declared.Held.TheVariants.{Row, Spare}
 use Rattle.ring.specs.declared.NoRing.{NoRing}
 use Rattle.ring.specs.declared.NoRing.TheVariants.{Empty, Lengths, NoKind}
 use Rattle.ring.specs.Ring.{rings}
+
+-- a row u that is run on a ring with n spare cells: it has some cells, all of the kinds of r, and as many spare ones
+pub record IsRing (r : Rule) (u : List ℕ) (n : ℕ) : Type 0 where
+  pub some : 0 < length u
+  pub spare : n ≡ length u
+  pub cells : Piece r u
 
 -- why a row u is not run on a ring with n spare cells, the first reason in this order
 abbrev pub NotRun : Rule → List ℕ → ℕ → NoRing → Type 0

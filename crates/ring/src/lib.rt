@@ -1,11 +1,10 @@
 #![tactic(auto)]
 
 // A rule, or a way back, on a row in a ring.
-ghost use Rattle.std.specs.Prelude.{◌≡◌, ℕ, ◌<◌, length, MatchResult};
+ghost use Rattle.std.specs.Prelude.{◌≡◌, length, MatchResult};
 ghost use Rattle.rules.specs.Local.{the_rule};
-ghost use Rattle.rules.specs.Rules.{Piece};
 ghost use Rattle.ring.specs.Ring.{ring, RoundTrips};
-ghost use Rattle.ring.specs.Seconds.{NotRun, Ran};
+ghost use Rattle.ring.specs.Seconds.{IsRing, NotRun, Ran};
 
 mod turn;
 
@@ -47,7 +46,7 @@ impl<'a> RingRule<'a> {
     #[tactic(auto, using(crate::proofs::Seconds::round_trips))]
     pub fn step(self, from: &[u32], to: &mut [u32]) -> Result<(), NoRing>
         ensures says { MatchResult result
-            (λ _. to.new ≡ ring (the_rule self.entry.rule) self.entry.place from.now)
+            (λ _. IsRing (the_rule self.entry.rule) from.now (length to.old) × (to.new ≡ ring (the_rule self.entry.rule) self.entry.place from.now))
             (λ e. (to.new ≡ to.old) × NotRun (the_rule self.entry.rule) from.now (length to.old) e) }
         ensures round_trips { RoundTrips }
     {
@@ -60,7 +59,7 @@ impl<'a> RingRule<'a> {
     #[tactic(auto, using(crate::proofs::Seconds::round_trips))]
     pub fn steps(self, seconds: u64, row: &mut [u32], spare: &mut [u32]) -> Result<Held, NoRing>
         ensures says { MatchResult result
-            (Ran (the_rule self.entry.rule) self.entry.place seconds row.old spare.old row.new spare.new)
+            (λ held. IsRing (the_rule self.entry.rule) row.old (length spare.old) × Ran (the_rule self.entry.rule) self.entry.place seconds row.old spare.old row.new spare.new held)
             (λ e. (row.new ≡ row.old) × (spare.new ≡ spare.old) × NotRun (the_rule self.entry.rule) row.old (length spare.old) e) }
         ensures round_trips { RoundTrips }
     {
@@ -80,7 +79,7 @@ impl<'a> RingRule<'a> {
 // Whether a row can be run in a ring, with so many spare cells.
 fn check_ring(rule: LocalRule, row: &[u32], spare: usize) -> Result<(), NoRing>
     ensures { MatchResult result
-        (λ _. Piece (the_rule rule.entry) row.now × (0 < length row.now) × (spare ≡ length row.now))
+        (λ _. IsRing (the_rule rule.entry) row.now spare)
         (NotRun (the_rule rule.entry) row.now spare) }
 {
     if row.is_empty() {

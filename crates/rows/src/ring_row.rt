@@ -1,7 +1,8 @@
 // A row in a ring that is run.
-ghost use Rattle.std.specs.Prelude.{◌≡◌, IfOk, OnOk};
+ghost use Rattle.std.specs.Prelude.{◌≡◌, length, IfOk, MatchResult};
 ghost use Rattle.rules.specs.Local.{the_rule};
 ghost use Rattle.ring.specs.Ring.{ring, rings};
+ghost use Rattle.ring.specs.Seconds.{IsRing, NotRun};
 
 use ring::{Held, NoRing, RingRule};
 use std::alloc::AllocError;
@@ -12,6 +13,7 @@ use std::mem;
 pub struct RingRow {
     row: Vec<u32>,
     spare: Vec<u32>,
+    ghost as_long: { length spare.items ≡ length row.items },
 }
 
 impl RingRow {
@@ -28,18 +30,26 @@ impl RingRow {
         &self.row
     }
 
-    /// One second. A refused row stays as it was.
+    /// One second.
     pub fn step(&mut self, rule: RingRule) -> Result<(), NoRing>
-        ensures { OnOk result (self.new.row.items ≡ ring (the_rule rule.entry.rule) rule.entry.place self.old.row.items) }
+        ensures { MatchResult result
+            (λ _. IsRing (the_rule rule.entry.rule) self.old.row.items (length self.old.row.items)
+            × (self.new.row.items ≡ ring (the_rule rule.entry.rule) rule.entry.place self.old.row.items))
+            (λ e. (self.new.row.items ≡ self.old.row.items)
+            × NotRun (the_rule rule.entry.rule) self.old.row.items (length self.old.row.items) e) }
     {
         rule.step(self.row.as_slice(), self.spare.as_mut_slice())?;
         mem::swap(&mut self.row, &mut self.spare);
         Ok(())
     }
 
-    /// So many seconds. A refused row stays as it was.
+    /// So many seconds.
     pub fn steps(&mut self, rule: RingRule, seconds: u64) -> Result<(), NoRing>
-        ensures { OnOk result (self.new.row.items ≡ rings (the_rule rule.entry.rule) rule.entry.place seconds self.old.row.items) }
+        ensures { MatchResult result
+            (λ _. IsRing (the_rule rule.entry.rule) self.old.row.items (length self.old.row.items)
+            × (self.new.row.items ≡ rings (the_rule rule.entry.rule) rule.entry.place seconds self.old.row.items))
+            (λ e. (self.new.row.items ≡ self.old.row.items)
+            × NotRun (the_rule rule.entry.rule) self.old.row.items (length self.old.row.items) e) }
     {
         match rule.steps(seconds, self.row.as_mut_slice(), self.spare.as_mut_slice())? {
             Held::Row => {}

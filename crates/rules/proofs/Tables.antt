@@ -14,9 +14,6 @@ pow_pred k m h = ap (λ n. k ^ n) {y = suc (m - 1)} (omega arith) ∙ pow-suc k 
 pub windows_of_blocks : (k m b : ℕ) → 1 ≤ m → b ≡ k ^ (m - 1) → b * k ≡ k ^ m
 windows_of_blocks k m b h is = ap (λ n. n * k) is ∙ sym (pow_pred k m h)
 
-pub formed_from_sound : {r : Rule} → Sound r → Formed r
-formed_from_sound s = record { kinds = s.kinds; wide = omega arith; full = s.full; cells = s.cells }
-
 pub formed_local : (l : LocalRule) → Formed (the_rule l)
 formed_local l =
     record { kinds = l.two; wide = l.some; full = l.full; cells = All-from_get_or (λ c. c < l.kinds) l.table.now 0 l.each }
@@ -24,7 +21,7 @@ formed_local l =
 -- what every rule to be decided is
 pub sound_rule : (s : SoundRule) → Sound (the_rule s.local)
 sound_rule s =
-    record { kinds = s.local.two; wide = s.wider; small = s.few; full = s.local.full; cells = (formed_local s.local).cells }
+    record { rule = record { formed = formed_local s.local; wide = s.wider }; small = s.few }
 
 -- a checked table that is a rule
 pub sound_local : (l : LocalRule) {k m : ℕ} {t : List ℕ} → l.kinds ≡ k → l.wide ≡ m → l.table.now ≡ t → Sound (rule_of k m t) → Sound (the_rule l)

@@ -39,13 +39,20 @@ pub record Formed (r : Rule) : Type 0 where
   pub full : length r.table ≡ r.kinds ^ r.wide
   pub cells : Piece r r.table
 
--- a rule that is decided: it looks at two cells at least, and has at most 16 blocks of one cell less than a window
-pub record Sound (r : Rule) : Type 0 where
-  pub kinds : 2 ≤ r.kinds
+-- a table that is run: it has at most 262144 windows
+pub record Runnable (r : Rule) : Type 0 where
+  pub formed : Formed r
+  pub few : r.kinds ^ r.wide ≤ 262144
+
+-- a rule, of any size: a table that fits, and that looks at two cells at least
+pub record IsRule (r : Rule) : Type 0 where
+  pub formed : Formed r
   pub wide : 2 ≤ r.wide
-  pub small : r.kinds ^ (r.wide - 1) ≤ 16
-  pub full : length r.table ≡ r.kinds ^ r.wide
-  pub cells : Piece r r.table
+
+-- a rule that is decided: it has at most 16 blocks of one cell less than a window
+pub record Sound (r : Rule) : Type 0 where
+  pub rule : IsRule r
+  pub small : blocks_of r ≤ 16
 
 -- the first n windows of m cells, from left to right
 abbrev pub windows : ℕ → ℕ → List ℕ → List (List ℕ)

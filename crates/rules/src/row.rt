@@ -1,8 +1,8 @@
 // The next row of a piece of cells.
-ghost use Rattle.std.specs.Prelude.{◌≡◌, ℕ, length, MatchResult};
+ghost use Rattle.std.specs.Prelude.{◌≡◌, length, MatchResult};
 ghost use Rattle.rules.specs.Local.{the_rule};
-ghost use Rattle.rules.specs.Rows.{Puts, Unwritten};
-ghost use Rattle.rules.specs.Rules.{Piece, at, next};
+ghost use Rattle.rules.specs.Rows.{Unwritten, Written};
+ghost use Rattle.rules.specs.Rules.{Piece, at};
 
 use crate::cells::{Kind, Window, stray};
 use crate::local::LocalRule;
@@ -17,7 +17,7 @@ pub enum NoRow {
 // Writes the next row of a piece to the front of `out`, and says how long it is.
 pub fn next_row(rule: LocalRule, row: &[u32], out: &mut [u32]) -> Result<usize, NoRow>
     ensures { MatchResult result
-        (λ n. (n ≡ length (next (the_rule rule.entry) row.now)) × Puts out.old out.new (next (the_rule rule.entry) row.now))
+        (Written (the_rule rule.entry) row.now out.old out.new)
         (λ e. (out.new ≡ out.old) × Unwritten (the_rule rule.entry) row.now out.old e) }
 {
     if let Some(place) = stray(rule.kinds(), row) {

@@ -1,7 +1,7 @@
 // Which tables are rules or ways back, and why others are not.
-ghost use Rattle.std.specs.Prelude.{◌≡◌, ℕ, ◌-◌, ◌^◌, ◌<◌, ◌≤◌, true, length, is_ok, IfOk, MatchResult};
+ghost use Rattle.std.specs.Prelude.{◌≡◌, ℕ, ◌-◌, ◌^◌, ◌<◌, ◌≤◌, true, length, is_ok, MatchResult};
 ghost use Rattle.rules.specs.Local.{the_rule};
-ghost use Rattle.rules.specs.Rules.{rule_of, Cells, Formed, Sound};
+ghost use Rattle.rules.specs.Rules.{rule_of, Cells, Runnable, Sound};
 ghost use Rattle.rules.specs.Checks.{BadSize, BadTable, Unfit};
 
 use crate::cells::stray;
@@ -43,10 +43,9 @@ impl<'a> LocalRule<'a> {
     // A table that can be run on a ring, as a rule or as a way back of any width.
     pub fn try_new(kinds: u32, wide: u32, table: &'a [u32]) -> Result<LocalRule<'a>, NoRule>
         ensures says { MatchResult result
-            (λ l. (the_rule l ≡ rule_of kinds wide table.now) × Formed (rule_of kinds wide table.now))
+            (λ l. (the_rule l ≡ rule_of kinds wide table.now) × Runnable (rule_of kinds wide table.now))
             (Unfit 1 262144 kinds wide table.now) }
-        ensures bounded { IfOk result (λ _. kinds ^ wide ≤ 262144) }
-        ensures exact { Formed (rule_of kinds wide table.now) → kinds ^ wide ≤ 262144 → is_ok result ≡ true }
+        ensures exact { Runnable (rule_of kinds wide table.now) → is_ok result ≡ true }
     {
         let windows = check_size(kinds, wide, 1, MOST_WINDOWS)?;
         check_table(kinds, windows, table)?;

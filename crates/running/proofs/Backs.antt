@@ -18,11 +18,11 @@ no_least_back {q} o o' (FullWayBack line) sound long h = inr (λ r p back. too_m
   where
     too_many : {v p p' : ℕ} {t : List ℕ} {r : Rule} → Least q v p t → length o < q.kinds ^ v → LeastBack q r p' → ⊥
     too_many {v} {r = r} least over back =
-        let some : 0 < q.kinds = omega (arith, sound.kinds) in
+        let some : 0 < q.kinds = omega (arith, sound.rule.formed.kinds) in
         let wider = (least.none_less r.wide _ r.table back.least.is).0 in
         let larger = pow-le-pow_right some wider in
         let few = subst (λ k. k ^ r.wide ≤ 262144) back.kinds back.few in
         absurd (omega (arith, larger, few, over, long))
-no_least_back o o' (Text e) sound long h = inl tt
+no_least_back o o' (Text e) sound long h = inl h
 no_least_back o o' Memory sound long h = inl tt
 no_least_back o o' _ sound long h = absurd h

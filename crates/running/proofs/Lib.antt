@@ -4,4 +4,5 @@ pub mod Firsts
 pub mod Later
 pub mod Places
 pub mod SameKinds
+pub mod Shown
 pub mod WaysBack

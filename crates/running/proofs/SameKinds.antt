@@ -3,6 +3,7 @@ use Rattle.std.proofs.Common.{◌≡◌, ℕ, Bool, List, sym, ap, ◌∙◌, su
 use Rattle.faults.specs.declared.fault.Fault.{Fault}
 use Rattle.rules.specs.Rules.{Rule}
 use Rattle.reading.proofs.One.{one}
+use Rattle.running.proofs.Firsts.{none_refused}
 use Rattle.running.specs.Asked.{NotAsked}
 use Rattle.running.specs.declared.run.Mode.{Mode}
 use Rattle.running.specs.declared.run.Mode.TheVariants.{Forwards, Backwards, WayBack}
@@ -20,5 +21,6 @@ same_kinds (WayBack o) c ws n p n' p' r r' runs runs' = ap (λ x. x.kinds) (one 
 -- where there is no first row of the kinds that run, no rows are asked for
 pub not_asked : (ws : List (List ℕ)) (run : Run) (start : Start) (n : ℕ) (r : Rule) (p : ℕ) (e : Fault) → Runs ws run n r p → NoFirstRow r.kinds start e → NotAsked ws run start e
 not_asked ws run start n r p e runs h =
-    ⊎_elim (λ failure. inl failure)
-    (λ none. inr (λ us a. none a.first (subst (λ k. FirstRow k start a.first) (same_kinds run.mode run.centre ws _ _ _ _ a.rule r a.runs runs) a.starts))) h
+    ⊎_elim (λ memory. inl memory)
+    (λ none. inr (λ us a. none a.first (subst (λ k. FirstRow k start a.first) (same_kinds run.mode run.centre ws _ _ _ _ a.rule r a.runs runs) a.starts)))
+    (none_refused r.kinds start e h)

@@ -9,10 +9,10 @@ use Rattle.undone.specs.declared.Decided.{Decided}
 use Rattle.undone.specs.declared.Decided.TheVariants.{Undone, Twins, Orphan, UndoneFull, TwinsFull, OrphanFull, NoRule, Few}
 
 none_by_orphan : {r : Rule} (x : List ℕ) → Sound r → FromNothing r x → HasWayBack r → ⊥
-none_by_orphan {r} x sound orphan (v, o, t, back) = no_orphan r v o t x sound back orphan
+none_by_orphan {r} x sound orphan (v, o, t, back) = no_orphan r v o t x sound.rule back orphan
 
 none_by_twins : {r : Rule} (a b : Row) → Sound r → SameNext r a b → HasWayBack r → ⊥
-none_by_twins {r} a b sound same (v, o, t, back) = no_way_back r a b v o t sound same back
+none_by_twins {r} a b sound same (v, o, t, back) = no_way_back r a b v o t sound.rule same back
 
 -- each answer but those of a way back
 pub none_by_answer : {r : Rule} (o o' : List ℕ) (d : Decided) → Sound r → Answer r o o' d → ((v p : ℕ) → d ≡ Undone v p → ⊥) → ((v p : ℕ) → d ≡ UndoneFull v p → ⊥) → HasWayBack r → ⊥

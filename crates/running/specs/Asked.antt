@@ -1,6 +1,6 @@
 -- The rows of a run, from its words to its end.
 use Rattle.std.specs.Prelude.{◌≡◌, ℕ, ◌⊎◌, List, length}
-use Rattle.faults.specs.Failure.{Failure}
+use Rattle.faults.specs.Failure.{OutOfMemory}
 use Rattle.faults.specs.declared.fault.Fault.{Fault}
 use Rattle.rules.specs.Rules.{Rule}
 use Rattle.running.specs.declared.ready.ReadyRun.{ReadyRun}
@@ -20,9 +20,9 @@ pub record Asked (ws : List (List ℕ)) (run : Run) (start : Start) (us : List (
   pub starts : FirstRow rule.kinds start first
   pub rows : us ≡ shown_rows run.last rule place run.steps first
 
--- why no rows are: a failure, which says nothing of what is asked, or none are asked for
+-- why no rows are: memory ran out, which says nothing of what is asked, or none are asked for
 abbrev pub NotAsked : List (List ℕ) → Run → Start → Fault → Type 0
-NotAsked ws run start e = Failure e ⊎ ((us : List (List ℕ)) → Asked ws run start us → ⊥)
+NotAsked ws run start e = OutOfMemory e ⊎ ((us : List (List ℕ)) → Asked ws run start us → ⊥)
 
 -- the rows of a run that is ready
 abbrev pub rows_of : ReadyRun → List (List ℕ)

@@ -1,6 +1,6 @@
 -- Which rule runs at which place, and the rows of a run.
 use Rattle.std.specs.Prelude.{◌≡◌, ℕ, zero, suc, ◌+◌, ◌-◌, ◌/◌, ◌%◌, ◌^◌, ◌≤◌, ◌⊎◌, Bool, true, false, List, [], ◌∷◌, ◌++◌}
-use Rattle.faults.specs.Failure.{Failure}
+use Rattle.faults.specs.Failure.{OutOfMemory}
 use Rattle.faults.specs.declared.fault.Fault.{Fault}
 use Rattle.reading.specs.Words.{Means, MeansBack}
 use Rattle.ring.specs.Ring.{rings}
@@ -25,9 +25,9 @@ pub record LeastBack (q r : Rule) (o : ℕ) : Type 0 where
   pub least : Least q r.wide o r.table
   pub few : r.kinds ^ r.wide ≤ 262144
 
--- why the least way back of q is not run: a failure, which says nothing of q, or there is none whose table is not too large
+-- why the least way back of q is not run: memory ran out, which says nothing of q, or there is none whose table is not too large
 abbrev pub NoLeastBack : Rule → Fault → Type 0
-NoLeastBack q e = Failure e ⊎ ((r : Rule) (o : ℕ) → LeastBack q r o → ⊥)
+NoLeastBack q e = OutOfMemory e ⊎ ((r : Rule) (o : ℕ) → LeastBack q r o → ⊥)
 
 -- what runs, by the words, in each mode: the rule that they mean; the least way back of the rule that they mean, which undoes
 -- what was moved; or the way back that they mean, at the place that is given
@@ -40,9 +40,9 @@ RunsAs (WayBack o) c ws n r p = MeansBack ws r × IsPlace n p 0 o
 abbrev pub Runs : List (List ℕ) → Run → ℕ → Rule → ℕ → Type 0
 Runs ws run n r p = RunsAs run.mode run.centre ws n r p
 
--- why nothing runs: a failure, which says nothing of the words, or nothing that they mean is to be run so
+-- why nothing runs: memory ran out, which says nothing of the words, or nothing that they mean is to be run so
 abbrev pub NothingRuns : List (List ℕ) → Run → Fault → Type 0
-NothingRuns ws run e = Failure e ⊎ ((n : ℕ) (r : Rule) (p : ℕ) → Runs ws run n r p → ⊥)
+NothingRuns ws run e = OutOfMemory e ⊎ ((n : ℕ) (r : Rule) (p : ℕ) → Runs ws run n r p → ⊥)
 
 -- the rows of s seconds from the row u on, the oldest first
 abbrev pub rows_until : Rule → ℕ → ℕ → List ℕ → List (List ℕ)

@@ -1,12 +1,15 @@
 -- Rows that a run begins with.
-use Rattle.std.specs.Prelude.{◌≡◌, ℕ, ◌/◌, ◌≤◌, ◌⊎◌, List, length, replicate, set, string_bytes}
-use Rattle.faults.specs.Failure.{Failure}
+use Rattle.std.specs.Prelude.{◌≡◌, ℕ, ◌/◌, ◌<◌, ◌≤◌, ◌⊎◌, List, length, replicate, set, string_bytes}
+use Rattle.faults.specs.Failure.{OutOfMemory}
 use Rattle.faults.specs.declared.fault.Fault.{Fault}
+use Rattle.faults.specs.declared.fault.Fault.TheVariants.{Cells as bad_cells, Ring, LongRow}
+use Rattle.faults.specs.declared.name.Name.TheVariants.{Row}
+use Rattle.ring.specs.declared.NoRing.TheVariants.{Empty}
 use Rattle.rows.specs.Random.{drawn_cells}
 use Rattle.rules.specs.Rules.{Cells}
 use Rattle.running.specs.declared.start.Start.{Start}
 use Rattle.running.specs.declared.start.Start.TheVariants.{Given, Random, Single}
-use Rattle.text.specs.Parsed.{Reads}
+use Rattle.text.specs.Parsed.{Reads, Refuses}
 
 -- n cells of kind 0, but for one of kind 1 at place n / 2
 abbrev pub single_cell : ℕ → List ℕ
@@ -25,6 +28,17 @@ pub record FirstRow (k : ℕ) (start : Start) (u : List ℕ) : Type 0 where
   pub some : 1 ≤ length u
   pub few : length u ≤ 262144
 
--- why there is none: a failure, which says nothing of the start, or no row is it
+-- the word of the start is no text of cells of k kinds, and why
+abbrev pub NotRead : ℕ → Start → Fault → Type 0
+NotRead k (Given word) (bad_cells b) = (b.name ≡ Row) × (b.kinds ≡ k) × Refuses k (string_bytes word) b.reason
+NotRead k start e = ⊥
+
+-- n cells are not the number of cells of a row that is run, and why
+abbrev pub BadLength : ℕ → Fault → Type 0
+BadLength n (Ring Empty) = n ≡ 0
+BadLength n LongRow = 262144 < n
+BadLength n e = ⊥
+
+-- why there is no first row: its word is not read, or its row is too short or too long; want of memory says nothing of the start
 abbrev pub NoFirstRow : ℕ → Start → Fault → Type 0
-NoFirstRow k start e = Failure e ⊎ ((u : List ℕ) → FirstRow k start u → ⊥)
+NoFirstRow k start e = OutOfMemory e ⊎ (NotRead k start e ⊎ ((u : List ℕ) × Starts k start u × BadLength (length u) e))

@@ -1,6 +1,8 @@
 // Where the rows of a run go.
-ghost use Rattle.std.specs.Prelude.{◌≡◌, ℕ, List, [], ◌∷◌, ◌++◌, refl, IfOk, OnOk};
+ghost use Rattle.std.specs.Prelude.{◌≡◌, ℕ, List, [], ◌∷◌, ◌++◌, refl, IfOk, MatchResult};
 ghost use Rattle.std.specs.Io.KnownBytes.{Appends};
+ghost use Rattle.faults.specs.Failure.{Failure, NotShown};
+ghost use Rattle.rules.specs.Rules.{Cells};
 ghost use Rattle.running.specs.Grown.{appends_nothing, counted_behind, printed_behind};
 ghost use Rattle.running.specs.Lines.{lines_of, counted};
 
@@ -11,17 +13,19 @@ use std::io::Write;
 use svg::drawing::Drawing;
 use text::print::{Alphabet, write_cells};
 
-/// What takes the rows of a run, one after another, the oldest first.
+/// What takes the rows of a run, one after another, the oldest first. Cells of the first 16 kinds can be shown.
 pub trait Rows {
     // What was added between two states.
     ghost grows: { Self → List (List ℕ) → Self → Type 0 };
 
     fn add(&mut self, cells: &[u32]) -> Result<(), Fault>
-        ensures { OnOk result (grows self.old (cells.now ∷ []) self.new) };
+        ensures { MatchResult result
+            (λ _. Cells 16 cells.now × grows self.old (cells.now ∷ []) self.new)
+            (NotShown cells.now) };
 
     /// Tells that so many seconds of a run are done, where their rows are not added.
     fn passed(&mut self, _seconds: u64) -> Result<(), Fault>
-        ensures { OnOk result (grows self.old [] self.new) }
+        ensures { MatchResult result (λ _. grows self.old [] self.new) Failure }
     {
         Ok(())
     }

@@ -1,5 +1,6 @@
 // From words to rows.
-ghost use Rattle.std.specs.Prelude.{map, string_bytes, MatchResult, OnOk};
+ghost use Rattle.std.specs.Prelude.{map, string_bytes, MatchResult};
+ghost use Rattle.faults.specs.Failure.{Failure};
 ghost use Rattle.running.specs.Asked.{Asked, NotAsked, rows_of};
 
 use crate::find::find_table;
@@ -29,7 +30,7 @@ pub fn prepare(heap: Global, words: &[String], run: &Run, start: &Start) -> Resu
 
 /// Runs what is ready, and adds its rows, the oldest first.
 pub fn run_rows<R: Rows>(ready: ReadyRun, rows: &mut R) -> Result<(), Fault>
-    ensures { OnOk result (R.grows rows.old (rows_of ready) rows.new) }
+    ensures { MatchResult result (λ _. R.grows rows.old (rows_of ready) rows.new) Failure }
 {
     let cells = ready.cells();
     let ReadyRun {

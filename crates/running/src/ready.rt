@@ -1,5 +1,8 @@
 // A run that is found to be in order.
+ghost use Rattle.std.proofs.Props.{props};
 ghost use Rattle.std.specs.Prelude.{◌≡◌, ◌≤◌, length, vec_len};
+ghost use Rattle.rules.specs.Rules.{Piece};
+ghost use Rattle.running.specs.Tables.{rule_in};
 
 use crate::table::RingTable;
 
@@ -12,6 +15,7 @@ pub struct ReadyRun {
     pub(crate) last: bool,
     ghost some: { 1 ≤ length row.items },
     ghost few: { length row.items ≤ 262144 },
+    ghost cells: { Piece (rule_in table) row.items } by { Prim.hlevel props },
 }
 
 impl ReadyRun {

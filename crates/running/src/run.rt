@@ -1,8 +1,10 @@
 // Runs of a rule, or of a way back, on a row in a ring.
-ghost use Rattle.std.specs.Prelude.{[], ◌∷◌, OnOk};
+ghost use Rattle.std.specs.Prelude.{◌≤◌, [], ◌∷◌, length, MatchResult};
+ghost use Rattle.faults.specs.Failure.{Failure};
 ghost use Rattle.rules.specs.Local.{the_rule};
 ghost use Rattle.running.specs.Runs.{rows_until};
 ghost use Rattle.ring.specs.Ring.{rings};
+ghost use Rattle.ring.specs.Seconds.{IsRing};
 
 use crate::output::Rows;
 use faults::fault::Fault;
@@ -42,7 +44,11 @@ pub(crate) fn add_each<R: Rows>(
     steps: u64,
     rows: &mut R,
 ) -> Result<(), Fault>
-    ensures { OnOk result (R.grows rows.old (rows_until (the_rule rule.entry.rule) rule.entry.place steps row.old.row.items) rows.new) }
+    requires digits { rule.rule.kinds ≤ 16 }
+    requires ring { IsRing (the_rule rule.rule) row.old.row.items (length row.old.row.items) }
+    ensures { MatchResult result
+        (λ _. R.grows rows.old (rows_until (the_rule rule.entry.rule) rule.entry.place steps row.old.row.items) rows.new)
+        Failure }
 {
     rows.add(row.cells())?;
     for _second in 0..steps {
@@ -59,7 +65,11 @@ pub(crate) fn add_last<R: Rows>(
     steps: u64,
     rows: &mut R,
 ) -> Result<(), Fault>
-    ensures { OnOk result (R.grows rows.old (rings (the_rule rule.entry.rule) rule.entry.place steps row.old.row.items ∷ []) rows.new) }
+    requires digits { rule.rule.kinds ≤ 16 }
+    requires ring { IsRing (the_rule rule.rule) row.old.row.items (length row.old.row.items) }
+    ensures { MatchResult result
+        (λ _. R.grows rows.old (rings (the_rule rule.entry.rule) rule.entry.place steps row.old.row.items ∷ []) rows.new)
+        Failure }
 {
     let chunk = (MOST_UPDATES / row.cells().len().max(1)).max(1) as u64;
     let mut done = 0;

@@ -1,6 +1,6 @@
 // The row that a run begins with.
-ghost use Rattle.std.specs.Prelude.{◌≡◌, ◌<◌, ◌≤◌, ◌⊎◌, IfOk, MatchResult};
-ghost use Rattle.running.specs.Starts.{FirstRow, NoFirstRow, single_cell};
+ghost use Rattle.std.specs.Prelude.{◌≡◌, ◌≤◌, IfOk, MatchResult};
+ghost use Rattle.running.specs.Starts.{BadLength, FirstRow, NoFirstRow, single_cell};
 
 use faults::fault::Fault;
 use faults::name::Name;
@@ -47,7 +47,7 @@ pub fn first_row(heap: Global, kinds: u32, start: &Start) -> Result<Vec<u32>, Fa
 
 // Whether a row of so many cells can be run.
 fn check_length(cells: usize) -> Result<(), Fault>
-    ensures { MatchResult result (λ _. (1 ≤ cells) × (cells ≤ 262144)) (λ _. (cells < 1) ⊎ (262144 < cells)) }
+    ensures { MatchResult result (λ _. (1 ≤ cells) × (cells ≤ 262144)) (BadLength cells) }
 {
     if cells == 0 {
         return Err(Fault::Ring(NoRing::Empty));

@@ -7,7 +7,8 @@ ghost use Rattle.rules.specs.Rules.{rule_of, Formed};
 use ring::RingRule;
 use rules::local::LocalRule;
 
-/// A rule or a way back that runs on rings: the window of a cell begins `place` cells before it, less `shift`.
+/// A rule or a way back that runs on rings, of kinds that have a digit: the window of a cell begins `place` cells before it,
+/// less `shift`.
 #[derive(Drop)]
 pub struct RingTable {
     kinds: u32,
@@ -16,12 +17,14 @@ pub struct RingTable {
     place: usize,
     shift: usize,
     ghost formed: { Formed (rule_of kinds wide table.items) } by { Prim.hlevel props },
+    ghost digits: { kinds ≤ 16 },
 }
 
 impl RingTable {
     /// The table of a rule, or of a way back, that runs at a place.
     pub fn new(kinds: u32, wide: u32, table: Vec<u32>, place: usize) -> RingTable
-        requires { Formed (rule_of kinds wide table.items) }
+        requires formed { Formed (rule_of kinds wide table.items) }
+        requires digits { kinds ≤ 16 }
         ensures rule { rule_of result.kinds result.wide result.table.items ≡ rule_of kinds wide table.items }
         ensures place { result.place ≡ place }
         ensures shift { result.shift ≡ 0 }

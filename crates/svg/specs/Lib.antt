@@ -1,2 +1,3 @@
--- Where the rectangles of a drawing stand: the definitions that the contracts cite.
+-- What cells can be drawn, and where their rectangles stand: the definitions that the contracts cite.
+pub mod Colours
 pub mod Runs

@@ -1,4 +1,9 @@
 // A drawing that is written to a file, or into memory, element by element.
+ghost use Rattle.std.specs.Prelude.{◌≡◌, MatchResult};
+ghost use Rattle.rules.specs.Rules.{Cells};
+ghost use Rattle.svg.specs.Colours.{Uncoloured};
+ghost use Rattle.svg.specs.declared.drawing.NoDrawing.TheVariants.{Stream as no_stream};
+
 use crate::runs::{Run, Runs};
 use rules::cells::stray;
 use std::io;
@@ -43,7 +48,16 @@ pub enum NoDrawing {
     #[error("the cell at place {place} has no colour")]
     NoColour { place: usize },
     #[error("the drawing cannot be written: {0}")]
-    Stream(#[from] io::Error),
+    Stream(io::Error),
+}
+
+// By hand: a contract tells it from `NoColour`, and what `thiserror` derives has no contract.
+impl From<io::Error> for NoDrawing {
+    ghost from_gives = { λ e r. r ≡ no_stream e };
+
+    fn from(e: io::Error) -> NoDrawing {
+        NoDrawing::Stream(e)
+    }
 }
 
 // Lengths are in pixels. Cells are squares of the size of their group, and are counted in it.
@@ -53,7 +67,9 @@ pub struct Drawing<W> {
 }
 
 impl<W: Write + Drop> Drawing<W> {
-    pub fn new(to: W) -> Drawing<W> {
+    pub fn new(to: W) -> Drawing<W>
+        ensures { result.to ≡ to }
+    {
         Drawing { to }
     }
 
@@ -119,7 +135,9 @@ impl<W: Write + Drop> Drawing<W> {
 
     // A row of a group, below so many others: a path for each kind but 0, in which each run of the kind is a rectangle. All cells
     // are looked at before the first is drawn.
-    pub fn cells(&mut self, above: usize, cells: &[u32]) -> Result<(), NoDrawing> {
+    pub fn cells(&mut self, above: usize, cells: &[u32]) -> Result<(), NoDrawing>
+        ensures { MatchResult result (λ _. Cells 16 cells.now) (Uncoloured cells.now) }
+    {
         if let Some(place) = stray(COLOURS, cells) {
             return Err(NoDrawing::NoColour { place });
         }

@@ -6,11 +6,15 @@ use Rattle.std.proofs.ByRecursion.{IsAscii-from_all, All-map, All-weaker}
 use Rattle.std.proofs.lemmas.List.{map_more}
 use Rattle.std.proofs.lemmas.Str.{encodes-append}
 use Rattle.std.proofs.lemmas.Bool.Decides.{nat_tests}
+use Rattle.std.specs.Prelude.{Err}
+use Rattle.rules.proofs.Strays.{none_stray}
 use Rattle.rules.specs.Rules.{Cells}
 use Rattle.text.specs.declared.print.Alphabet.{Alphabet}
 use Rattle.text.specs.declared.print.Alphabet.TheVariants.{Digits, Glyphs}
+use Rattle.text.specs.declared.print.NoText.{NoText}
+use Rattle.text.specs.declared.print.NoText.TheVariants.{NoDigit, Memory}
 use Rattle.text.specs.Letters.{letter, written, symbol, shown, text_of}
-use Rattle.text.specs.Shown.{Added}
+use Rattle.text.specs.Shown.{Added, Adds}
 
 -- one cell on
 pub shown_more : (a : Alphabet) (u old : List ℕ) (i : ℕ) → i < length u → (old ++ shown a (take i u)) ++ encode (symbol a (get_or u i 0)) ≡ old ++ shown a (take (i + 1) u)
@@ -29,3 +33,8 @@ text-shown Glyphs u h = refl
 
 pub added_text : (a : Alphabet) (u old new : List ℕ) → Cells 16 u → new ≡ old ++ shown a u → Added (text_of a) u old new
 added_text a u old new small is = record { small = small; is = is ∙ ap (λ l. old ++ l) (text-shown a u small) }
+
+-- cells that all have a character are refused for want of memory only
+pub memory_alone : (f : List ℕ → List ℕ) (u old new : List ℕ) (e : NoText) → Cells 16 u → Adds {T = Unit {0}} f u old new (Err e) → e ≡ Memory
+memory_alone f u old new (NoDigit p) small why = absurd (none_stray 16 p u small why.0)
+memory_alone f u old new Memory small why = refl

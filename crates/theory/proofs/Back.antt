@@ -51,7 +51,7 @@ module _ (r : Rule) (some : 1 ≤ r.wide) (v o : ℕ) (t : List ℕ) (way : Back
 
 -- two rows of one next would agree in their middles
 pub no_way_back : NoWayBack
-no_way_back r a b v o t sound twins way = twins.differ (ext_get_or 0 a.mid b.mid twins.as_long.1 same)
+no_way_back r a b v o t rule twins way = twins.differ (ext_get_or 0 a.mid b.mid twins.as_long.1 same)
   where
     n : ℕ
     n = v + r.wide

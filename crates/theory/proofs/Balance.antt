@@ -6,7 +6,7 @@ use native.Mathlib.Decide.{ℕ_discrete}
 use Rattle.std.specs.List.{flat_map}
 use Rattle.std.proofs.lemmas.List.{length-map}
 use Rattle.std.proofs.ByRecursion.{All-append, All-take}
-use Rattle.rules.specs.Rules.{Rule, Sound, Piece, blocks_of, next, copies}
+use Rattle.rules.specs.Rules.{Rule, IsRule, Piece, blocks_of, next, copies}
 use Rattle.theory.specs.Says.{FromNothing, Among, Once, Balanced, NoDiamond}
 use Rattle.rules.proofs.Next.{length-next, piece_next, same_next_within}
 use Rattle.theory.proofs.Rows.{length-copies}
@@ -61,7 +61,7 @@ length_joined_preimages r n = omega (arith, length_among (flat_map (preimages r)
         let (cells, (long, _)) = comes_from_preimages r x u l in
         among_words r.kinds (n + (r.wide - 1)) u cells (long ∙ ap (λ m. m + (r.wide - 1)) (long_words r.kinds n x j))
 
-module _ (r : Rule) (sound : Sound r) (no_orphan : (y : List ℕ) → FromNothing r y → ⊥) where
+module _ (r : Rule) (rule : IsRule r) (no_orphan : (y : List ℕ) → FromNothing r y → ⊥) where
   -- the words x, a block, x, a block, and so on to x, are no more than the pieces that they come from
   preimages_pow : (x : List ℕ) → Piece r x → (j : ℕ) → blocks_of r ^ j ≤ length (preimages r x) ^ j * length (preimages r x)
   preimages_pow x cells j = omega (arith, length_into (λ y u. next r u ≡ y) ys us once into (λ y w u e f. sym e ∙ f), many, length_chains j (preimages r x) (preimages r x))
@@ -98,7 +98,7 @@ module _ (r : Rule) (sound : Sound r) (no_orphan : (y : List ℕ) → FromNothin
 
 -- without an orphan every piece has as many preimages as there are blocks
 pub balanced : Balanced
-balanced r x sound no_orphan cells = (preimages r x, once_preimages r x, length_preimages r sound no_orphan x cells, λ u. (comes_from_preimages r x u, among_preimages r x u))
+balanced r x rule no_orphan cells = (preimages r x, once_preimages r x, length_preimages r rule no_orphan x cells, λ u. (comes_from_preimages r x u, among_preimages r x u))
 
 -- b can stand for a anywhere in a row, and the next row stays the same
 abbrev pub StandsFor : Rule → List ℕ → List ℕ → Type 0
@@ -118,8 +118,8 @@ module _ (r : Rule) (a b e : List ℕ) (stands : StandsFor r b a) where
       ∙ ap (λ y. next r (t ++ y)) (sym (append_assoc a (copies j a) e))
 
 -- without an orphan only a itself, of all pieces as long as a, can stand for a
-same_from_stands : (r : Rule) → Sound r → ((y : List ℕ) → FromNothing r y → ⊥) → (a b e : List ℕ) → Piece r a → Piece r b → Piece r e → length a ≡ length b → length e ≡ r.wide - 1 → StandsFor r b a → a ≡ b
-same_from_stands r sound no_orphan a b e cells-a cells-b cells-e as_long long-e stands = same (List-discrete ℕ_discrete a b)
+same_from_stands : (r : Rule) → IsRule r → ((y : List ℕ) → FromNothing r y → ⊥) → (a b e : List ℕ) → Piece r a → Piece r b → Piece r e → length a ≡ length b → length e ≡ r.wide - 1 → StandsFor r b a → a ≡ b
+same_from_stands r rule no_orphan a b e cells-a cells-b cells-e as_long long-e stands = same (List-discrete ℕ_discrete a b)
   where
     sides : ℕ → List (List ℕ)
     sides j = chains j (a ∷ b ∷ []) (e ∷ [])
@@ -142,7 +142,7 @@ same_from_stands r sound no_orphan a b e cells-a cells-b cells-e as_long long-e 
     few : (a ≡ b → ⊥) → (j : ℕ) → 2 ^ j ≤ blocks_of r
     few apart j =
         let fits = length_among (sides j) (preimages r (next r (one j))) (once_chains (length a) j (all_two (λ c. length c ≡ length a) refl (sym as_long)) (once_two apart) once_one) (λ z i. among_preimages r (next r (one j)) z (comes j z i)) in
-        omega (arith, fits, length_chains j (a ∷ b ∷ []) (e ∷ []), length_preimages r sound no_orphan (next r (one j)) (piece_next r (omega arith) sound.cells (one j)))
+        omega (arith, fits, length_chains j (a ∷ b ∷ []) (e ∷ []), length_preimages r rule no_orphan (next r (one j)) (piece_next r (omega arith) rule.formed.cells (one j)))
 
     same : Dec (a ≡ b) → a ≡ b
     same (yes is) = is
@@ -152,7 +152,7 @@ same_from_stands r sound no_orphan a b e cells-a cells-b cells-e as_long long-e 
 
 -- no diamond: without an orphan no two pieces of one next row agree in their first block and in their last, but for equal ones
 pub no_diamond : NoDiamond
-no_diamond r sound no_orphan p s u w cells_u cells_w long_p long_s as_long same = append_cancel_right u w s (append_cancel_left p (u ++ s) (w ++ s) whole)
+no_diamond r rule no_orphan p s u w cells_u cells_w long_p long_s as_long same = append_cancel_right u w s (append_cancel_left p (u ++ s) (w ++ s) whole)
   where
     long : (v : List ℕ) → length (p ++ (v ++ s)) ≡ length p + (length v + length s)
     long v = length-append p (v ++ s) ∙ ap (λ l. length p + l) (length-append v s)
@@ -161,4 +161,4 @@ no_diamond r sound no_orphan p s u w cells_u cells_w long_p long_s as_long same 
     cells_p = subst (Piece r) (take_at p (u ++ s) (length p) refl) (All-take (λ c. c < r.kinds) (length p) (p ++ (u ++ s)) cells_u)
 
     whole : p ++ (u ++ s) ≡ p ++ (w ++ s)
-    whole = same_from_stands r sound no_orphan (p ++ (u ++ s)) (p ++ (w ++ s)) p cells_u cells_w cells_p (long u ∙ ap (λ l. length p + (l + length s)) as_long ∙ sym (long w)) long_p (same_next_within r (omega arith) p w u s long_p long_s (sym same))
+    whole = same_from_stands r rule no_orphan (p ++ (u ++ s)) (p ++ (w ++ s)) p cells_u cells_w cells_p (long u ∙ ap (λ l. length p + (l + length s)) as_long ∙ sym (long w)) long_p (same_next_within r (omega arith) p w u s long_p long_s (sym same))

@@ -160,7 +160,7 @@ module _ (r : Rule) (some : 2 ≤ r.wide) where
 
 -- rows that differ in their middles only are a diamond, which only a rule with an orphan has; and an orphan gives such rows
 pub finite_exactly : FiniteExactly
-finite_exactly r sound = (λ (a, b, finite). orphan a b finite, rows)
+finite_exactly r rule = (λ (a, b, finite). orphan a b finite, rows)
   where
     orphan : (a b : Row) → FiniteTwins r a b → HasOrphan r
     orphan a b finite =
@@ -168,11 +168,11 @@ finite_exactly r sound = (λ (a, b, finite). orphan a b finite, rows)
         (⊎_elim
         (λ (_, _, _, none).
         let (p, s, d) = diamond_from_finite r (omega arith) finite in
-        absurd (d.differ (no_diamond r sound none p s a.mid b.mid (pieces r p a.mid s d.cells_p d.cells_u d.cells_s) (pieces r p b.mid s d.cells_p d.cells_w d.cells_s) d.long_p d.long_s d.as_long d.same)))
-        (λ (v, o, t, way). absurd (no_way_back r a b v o t sound finite.twins way)))
-        (one_of_three r sound)
+        absurd (d.differ (no_diamond r rule none p s a.mid b.mid (pieces r p a.mid s d.cells_p d.cells_u d.cells_s) (pieces r p b.mid s d.cells_p d.cells_w d.cells_s) d.long_p d.long_s d.as_long d.same)))
+        (λ (v, o, t, way). absurd (no_way_back r a b v o t rule finite.twins way)))
+        (one_of_three r rule)
 
     rows : HasOrphan r → HasFiniteTwins r
     rows (x, is) =
-        let (a, b, twins, left, right) = twins_of_orphans r x sound is in
+        let (a, b, twins, left, right) = twins_of_orphans r x rule is in
         (a, b, record { twins = twins; left = left; right = right })

@@ -5,7 +5,7 @@ use native.Mathlib.Decide.{ℕ_discrete, map_dec}
 use Rattle.std.proofs.lemmas.List.{length-map, drop-take}
 use Rattle.std.proofs.ByRecursion.{All-append, All-take, All-drop}
 use Rattle.std.proofs.lemmas.Bool.{cases_lt}
-use Rattle.rules.specs.Rules.{Rule, Sound, Piece, Cells, blocks_of}
+use Rattle.rules.specs.Rules.{Rule, IsRule, Piece, Cells, blocks_of}
 use Rattle.theory.specs.Says.{FromNothing, HasOrphan, Among, here, there}
 use Rattle.rules.proofs.Next.{all_map_any}
 use Rattle.theory.proofs.Rows.{zeros, length_zeros, cells_zeros}
@@ -83,8 +83,8 @@ shorter_orphan r some x orphan enough =
     (take i x ++ drop j x, orphan_from_subset r some (take i x) (take j x) (drop j x) same cells whole, omega (arith, length-append (take i x) (drop j x), length-take i x, length-drop j x))
 
 -- where every word of n cells has a preimage no piece of at most n cells is an orphan
-no_orphan_upto : (r : Rule) → Sound r → (n : ℕ) → ((x : List ℕ) → Among x (words r.kinds n) → (u : List ℕ) × Comes r x u) → (x : List ℕ) → length x ≤ n → FromNothing r x → ⊥
-no_orphan_upto r sound n each x short (cells, from-none) =
+no_orphan_upto : (r : Rule) → IsRule r → (n : ℕ) → ((x : List ℕ) → Among x (words r.kinds n) → (u : List ℕ) × Comes r x u) → (x : List ℕ) → length x ≤ n → FromNothing r x → ⊥
+no_orphan_upto r rule n each x short (cells, from-none) =
     let end : List ℕ = zeros (n - length x) in
     let cells-end = All-append (λ c. c < r.kinds) x end cells (cells_zeros (omega arith) (n - length x)) in
     let long : length (x ++ end) ≡ n = omega (arith, length-append x end, length_zeros (n - length x)) in
@@ -93,11 +93,11 @@ no_orphan_upto r sound n each x short (cells, from-none) =
     from-none (take (length x + (r.wide - 1)) u) cells_u long-u from
 
 -- where every word of as many cells as there are sets has one, no piece at all is
-no_orphan_any : (r : Rule) → Sound r → ((x : List ℕ) → Among x (words r.kinds (sets r)) → (u : List ℕ) × Comes r x u) → (l : ℕ) (x : List ℕ) → length x ≤ l → FromNothing r x → ⊥
-no_orphan_any r sound each zero x short orphan = no_orphan_upto r sound (sets r) each x (omega arith) orphan
-no_orphan_any r sound each (suc l) x short orphan = ⊎_elim (λ less. no_orphan_upto r sound (sets r) each x (omega arith) orphan) (λ more. let (y, orphan-y, shorter) = shorter_orphan r (omega arith) x orphan more in no_orphan_any r sound each l y (omega arith) orphan-y) (cases_lt (length x) (sets r))
+no_orphan_any : (r : Rule) → IsRule r → ((x : List ℕ) → Among x (words r.kinds (sets r)) → (u : List ℕ) × Comes r x u) → (l : ℕ) (x : List ℕ) → length x ≤ l → FromNothing r x → ⊥
+no_orphan_any r rule each zero x short orphan = no_orphan_upto r rule (sets r) each x (omega arith) orphan
+no_orphan_any r rule each (suc l) x short orphan = ⊎_elim (λ less. no_orphan_upto r rule (sets r) each x (omega arith) orphan) (λ more. let (y, orphan-y, shorter) = shorter_orphan r (omega arith) x orphan more in no_orphan_any r rule each l y (omega arith) orphan-y) (cases_lt (length x) (sets r))
 
 -- a rule has an orphan or has none: if it has one, one has as many cells as there are sets of blocks
-pub orphan_or_none : (r : Rule) → Sound r → HasOrphan r ⊎ ((x : List ℕ) → FromNothing r x → ⊥)
-orphan_or_none r sound =
-    ⊎_elim (λ each. inr (λ x. no_orphan_any r sound each (length x) x (omega arith))) (λ (x, _, orphan). inl (x, orphan)) (all_or_some (words r.kinds (sets r)) (λ x i. preimage_or_orphan r x (cells_from_words r.kinds (sets r) x i)))
+pub orphan_or_none : (r : Rule) → IsRule r → HasOrphan r ⊎ ((x : List ℕ) → FromNothing r x → ⊥)
+orphan_or_none r rule =
+    ⊎_elim (λ each. inr (λ x. no_orphan_any r rule each (length x) x (omega arith))) (λ (x, _, orphan). inl (x, orphan)) (all_or_some (words r.kinds (sets r)) (λ x i. preimage_or_orphan r x (cells_from_words r.kinds (sets r) x i)))

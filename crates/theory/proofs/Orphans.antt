@@ -2,7 +2,7 @@
 use Rattle.std.proofs.Common.{◌≡◌, ℕ, zero, suc, ◌+◌, ◌-◌, ◌*◌, ◌^◌, ◌<◌, List, [], ◌∷◌, ◌++◌, length, take, drop, sym, refl, ap, ◌∙◌, suc-mul, arith, length-append, length-drop, length-take}
 use mathlib.Core.List.{append_cancel_left, append_cancel_right}
 use Rattle.std.proofs.ByRecursion.{All-append, All-take, All-drop}
-use Rattle.rules.specs.Rules.{Rule, Sound, Piece, next, Row, part}
+use Rattle.rules.specs.Rules.{Rule, IsRule, Piece, next, Row, part}
 use Rattle.theory.specs.Says.{FromNothing, SameNext, Among, TwinsOfOrphans, NoOrphan}
 use Rattle.rules.proofs.Next.{next_split, same_next_within}
 use Rattle.theory.proofs.Rows.{zeros, length_zeros, cells_zeros}
@@ -13,16 +13,16 @@ use Rattle.theory.proofs.Words.{among_words_next, among_pairs, chains, length_ch
 use Rattle.theory.proofs.Back.{no_way_back}
 
 -- a row of j times as many windows as the orphan x has cells, and a block more: of it come j pieces other than x, and a block
-next_without : (r : Rule) → Sound r → (x : List ℕ) → FromNothing r x → (m : Among x (words r.kinds (length x))) (j : ℕ) (u : List ℕ) → Piece r u → length u ≡ j * length x + ((r.wide - 1) + (r.wide - 1)) → Among (next r u) (chains j (without m) (words r.kinds (r.wide - 1)))
-next_without r sound x orphan m zero u cells long = among_words_next r sound (r.wide - 1) u (omega arith)
-next_without r sound x orphan m (suc j) u cells long =
+next_without : (r : Rule) → IsRule r → (x : List ℕ) → FromNothing r x → (m : Among x (words r.kinds (length x))) (j : ℕ) (u : List ℕ) → Piece r u → length u ≡ j * length x + ((r.wide - 1) + (r.wide - 1)) → Among (next r u) (chains j (without m) (words r.kinds (r.wide - 1)))
+next_without r rule x orphan m zero u cells long = among_words_next r rule (r.wide - 1) u (omega arith)
+next_without r rule x orphan m (suc j) u cells long =
     let n : ℕ = length x + (r.wide - 1) in
     let step = suc-mul j (length x) in
     let first : length (take n u) ≡ n = omega (arith, length-take n u) in
     let other = orphan.1 (take n u) (All-take (λ c. c < r.kinds) n u cells) first in
     let rest : length (drop (length x) u) ≡ j * length x + ((r.wide - 1) + (r.wide - 1)) = omega (arith, length-drop (length x) u) in
-    let fronts = among_without m (among_words_next r sound (length x) (take n u) first) other in
-    let ends = next_without r sound x orphan m j (drop (length x) u) (All-drop (λ c. c < r.kinds) (length x) u cells) rest in
+    let fronts = among_without m (among_words_next r rule (length x) (take n u) first) other in
+    let ends = next_without r rule x orphan m j (drop (length x) u) (All-drop (λ c. c < r.kinds) (length x) u cells) rest in
     rw (next_split r (omega arith) (length x) u) (among_pairs fronts ends)
 
 -- the piece u between two blocks of 0, and a row of 0 around it
@@ -39,7 +39,7 @@ length_between q u = length-append (zeros q) (u ++ zeros q) ∙ omega (arith, le
 abbrev Gives : Rule → List ℕ → List ℕ → Type 0
 Gives r u v = v ≡ next r (between (r.wide - 1) u)
 
-module _ (r : Rule) (sound : Sound r) where
+module _ (r : Rule) (rule : IsRule r) where
   cells_around : (l : List ℕ) → Piece r l → (u : List ℕ) → Piece r u → Piece r (l ++ (u ++ l))
   cells_around l cells-l u cells = All-append (λ c. c < r.kinds) l (u ++ l) cells-l (All-append (λ c. c < r.kinds) u l cells cells-l)
 
@@ -74,8 +74,8 @@ module _ (r : Rule) (sound : Sound r) where
 
 -- an orphan gives two rows of one next: by growth some pieces between blocks of 0 are more than what can come of them
 pub twins_of_orphans : TwinsOfOrphans
-twins_of_orphans r x sound orphan =
-    twins_from_clash r sound (j * length x) others (pigeonhole (Gives r) (words k (j * length x)) others (once_words k (j * length x)) into fewer)
+twins_of_orphans r x rule orphan =
+    twins_from_clash r rule (j * length x) others (pigeonhole (Gives r) (words k (j * length x)) others (once_words k (j * length x)) into fewer)
   where
     k : ℕ
     k = r.kinds
@@ -97,9 +97,9 @@ twins_of_orphans r x sound orphan =
 
     into : Into (Gives r) (words k (j * length x)) others
     into u i =
-        let cells = cells_around r sound (zeros q) (cells_zeros (omega arith) q) u (cells_from_words k (j * length x) u i) in
+        let cells = cells_around r rule (zeros q) (cells_zeros (omega arith) q) u (cells_from_words k (j * length x) u i) in
         let long = length_between q u ∙ ap (λ l. l + (q + q)) (long_words k (j * length x) u i) in
-        (next r (between q u), next_without r sound x orphan m j (between q u) cells long, refl)
+        (next r (between q u), next_without r rule x orphan m j (between q u) cells long, refl)
 
     few : length others ≡ length (without m) ^ j * k ^ q
     few = length_chains j (without m) (words k q) ∙ ap (λ l. length (without m) ^ j * l) (length_words k q)
@@ -112,6 +112,6 @@ twins_of_orphans r x sound orphan =
 
 -- a rule with a way back has no orphan
 pub no_orphan : NoOrphan
-no_orphan r v o t x sound way orphan =
-    let (a, b, twins, _, _) = twins_of_orphans r x sound orphan in
-    no_way_back r a b v o t sound twins way
+no_orphan r v o t x rule way orphan =
+    let (a, b, twins, _, _) = twins_of_orphans r x rule orphan in
+    no_way_back r a b v o t rule twins way

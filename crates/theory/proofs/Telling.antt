@@ -4,7 +4,7 @@ use mathlib.Core.List.{List-discrete}
 use native.Mathlib.Decide.{ℕ_discrete}
 use Rattle.std.specs.List.{range_with_len}
 use Rattle.std.proofs.lemmas.List.FromFn.{length-map-range_with_len, get_or-map-range_with_len}
-use Rattle.rules.specs.Rules.{Rule, Sound, Piece, digits, next}
+use Rattle.rules.specs.Rules.{Rule, IsRule, Piece, digits, next}
 use Rattle.theory.specs.Says.{OneNext, Tells, Back, Among}
 use Rattle.rules.proofs.Digits.{digits_lt, same_from_digits}
 use Rattle.rules.proofs.Next.{get_or_kind, piece_next, length-next_block, all_map_any}
@@ -52,8 +52,8 @@ cell_at_holds Q o (yes (u, i, p)) each else = each u i p
 cell_at_holds Q o (no never) each else = else never
 
 -- a cell that is told is looked up: the table has at each number the cell of some piece whose next row has that number
-pub back_from_tells : (r : Rule) → Sound r → (v o : ℕ) → 1 ≤ v → o < v + (r.wide - 1) → Tells r v o → (t : List ℕ) × Back r v o t
-back_from_tells r sound v o some inside tells = (table, record { wide = some; inside = inside; full = length-map-range_with_len cell 0 (k ^ v); cells = all_map_any (λ c. c < k) cell (range_with_len 0 (k ^ v)) kind; back = back })
+pub back_from_tells : (r : Rule) → IsRule r → (v o : ℕ) → 1 ≤ v → o < v + (r.wide - 1) → Tells r v o → (t : List ℕ) × Back r v o t
+back_from_tells r rule v o some inside tells = (table, record { wide = some; inside = inside; full = length-map-range_with_len cell 0 (k ^ v); cells = all_map_any (λ c. c < k) cell (range_with_len 0 (k ^ v)) kind; back = back })
   where
     k : ℕ
     k = r.kinds
@@ -71,7 +71,7 @@ back_from_tells r sound v o some inside tells = (table, record { wide = some; in
     kind d = cell_at_holds (λ c. c < k) o (found r v d) (λ u i _. get_or_kind (omega arith) u o (cells_from_words k n u i)) (λ _. omega arith)
 
     cells : (u : List ℕ) → Piece r (next r u)
-    cells = piece_next r (omega arith) sound.cells
+    cells = piece_next r (omega arith) rule.formed.cells
 
     long : (u : List ℕ) → length u ≡ n → length (next r u) ≡ v
     long u e = omega (arith, length-next_block r (omega arith) u)

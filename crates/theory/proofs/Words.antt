@@ -4,7 +4,7 @@ use native.Mathlib.Nat.{pow-zero, pow-succ'}
 use Rattle.std.specs.List.{flat_map}
 use Rattle.std.proofs.lemmas.List.{length-map, append_cancel_left}
 use Rattle.std.proofs.ByRecursion.{All-append}
-use Rattle.rules.specs.Rules.{Rule, Sound, Cells, next}
+use Rattle.rules.specs.Rules.{Rule, IsRule, Cells, next}
 use Rattle.theory.specs.Says.{Among, here, Once}
 use Rattle.rules.proofs.Next.{length-next, piece_next}
 use Rattle.theory.proofs.Members.{all_one, once_one, among_map, among_from_map, once_map, among_joined, among_from_joined, once_joined}
@@ -98,6 +98,6 @@ pub long_words : (k n : ℕ) → AllLong n (words k n)
 long_words k n u i = long_chains 1 0 n (singles k) ([] ∷ []) (long_singles k) (all_one (λ e. length e ≡ 0) refl) u i ∙ omega arith
 
 -- the next row of anything that has n windows
-pub among_words_next : (r : Rule) → Sound r → (n : ℕ) (u : List ℕ) → length u ≡ n + (r.wide - 1) → Among (next r u) (words r.kinds n)
-among_words_next r sound n u long =
-    among_words r.kinds n (next r u) (piece_next r (omega arith) sound.cells u) (omega (arith, length-next r u))
+pub among_words_next : (r : Rule) → IsRule r → (n : ℕ) (u : List ℕ) → length u ≡ n + (r.wide - 1) → Among (next r u) (words r.kinds n)
+among_words_next r rule n u long =
+    among_words r.kinds n (next r u) (piece_next r (omega arith) rule.formed.cells u) (omega (arith, length-next r u))

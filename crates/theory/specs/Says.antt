@@ -1,6 +1,6 @@
 -- What can be said of a rule, and the theorems about it, as types.
 use Rattle.std.specs.Prelude.{◌≡◌, ℕ, ◌+◌, ◌-◌, ◌^◌, ◌<◌, ◌≤◌, ◌⊎◌, ◌↔◌, List, [], ◌∷◌, ◌++◌, length, ◌≢◌, slice_index}
-use Rattle.rules.specs.Rules.{Rule, rule_of, Sound, digits, next, Piece, Row, part}
+use Rattle.rules.specs.Rules.{Rule, rule_of, IsRule, digits, next, Piece, Row, part}
 
 -- two pieces of one length and one next row
 pub record OneNext (r : Rule) (u w : List ℕ) : Type 0 where
@@ -50,15 +50,15 @@ pub record FirstOrphan (r : Rule) (x : List ℕ) : Type 0 where
 
 -- a rule with two rows of one next has no way back
 abbrev pub NoWayBack : Type 0
-NoWayBack = (r : Rule) (a b : Row) (v o : ℕ) (t : List ℕ) → Sound r → SameNext r a b → Back r v o t → ⊥
+NoWayBack = (r : Rule) (a b : Row) (v o : ℕ) (t : List ℕ) → IsRule r → SameNext r a b → Back r v o t → ⊥
 
 -- a rule with a way back has no orphan
 abbrev pub NoOrphan : Type 0
-NoOrphan = (r : Rule) (v o : ℕ) (t x : List ℕ) → Sound r → Back r v o t → FromNothing r x → ⊥
+NoOrphan = (r : Rule) (v o : ℕ) (t x : List ℕ) → IsRule r → Back r v o t → FromNothing r x → ⊥
 
 -- an orphan gives two rows of one next that differ in their middles only
 abbrev pub TwinsOfOrphans : Type 0
-TwinsOfOrphans = (r : Rule) (x : List ℕ) → Sound r → FromNothing r x → (a : Row) × (b : Row) × SameNext r a b × (a.left ≡ b.left) × (a.right ≡ b.right)
+TwinsOfOrphans = (r : Rule) (x : List ℕ) → IsRule r → FromNothing r x → (a : Row) × (b : Row) × SameNext r a b × (a.left ≡ b.left) × (a.right ≡ b.right)
 
 -- two rows of one next row that differ in their middles only
 pub record FiniteTwins (r : Rule) (a b : Row) : Type 0 where
@@ -81,11 +81,11 @@ pub data Once : List (List ℕ) → Type 0 where
 
 -- without an orphan every piece comes from as many pieces as there are blocks: us is the list of them
 abbrev pub Balanced : Type 0
-Balanced = (r : Rule) (x : List ℕ) → Sound r → ((y : List ℕ) → FromNothing r y → ⊥) → Piece r x → (us : List (List ℕ)) × Once us × (length us ≡ r.kinds ^ (r.wide - 1)) × ((u : List ℕ) → Among u us ↔ (Piece r u × ((length u ≡ length x + (r.wide - 1)) × (next r u ≡ x))))
+Balanced = (r : Rule) (x : List ℕ) → IsRule r → ((y : List ℕ) → FromNothing r y → ⊥) → Piece r x → (us : List (List ℕ)) × Once us × (length us ≡ r.kinds ^ (r.wide - 1)) × ((u : List ℕ) → Among u us ↔ (Piece r u × ((length u ≡ length x + (r.wide - 1)) × (next r u ≡ x))))
 
 -- no diamond: without an orphan no two different pieces of one next row agree in their first block and in their last
 abbrev pub NoDiamond : Type 0
-NoDiamond = (r : Rule) → Sound r → ((y : List ℕ) → FromNothing r y → ⊥) → (p s u w : List ℕ) → Piece r (p ++ (u ++ s)) → Piece r (p ++ (w ++ s)) → length p ≡ r.wide - 1 → length s ≡ r.wide - 1 → length u ≡ length w → next r (p ++ (u ++ s)) ≡ next r (p ++ (w ++ s)) → u ≡ w
+NoDiamond = (r : Rule) → IsRule r → ((y : List ℕ) → FromNothing r y → ⊥) → (p s u w : List ℕ) → Piece r (p ++ (u ++ s)) → Piece r (p ++ (w ++ s)) → length p ≡ r.wide - 1 → length s ≡ r.wide - 1 → length u ≡ length w → next r (p ++ (u ++ s)) ≡ next r (p ++ (w ++ s)) → u ≡ w
 
 -- a rule of the first kind has an orphan
 abbrev pub HasOrphan : Rule → Type 0
@@ -101,19 +101,19 @@ HasWayBack r = (v : ℕ) × (o : ℕ) × (t : List ℕ) × Back r v o t
 
 -- a rule has an orphan, or two rows of one next and no orphan, or a way back
 abbrev pub OneOfThree : Type 0
-OneOfThree = (r : Rule) → Sound r → HasOrphan r ⊎ (HasTwins r ⊎ HasWayBack r)
+OneOfThree = (r : Rule) → IsRule r → HasOrphan r ⊎ (HasTwins r ⊎ HasWayBack r)
 
 -- a rule is of one of the three kinds, and of no two of them
 abbrev pub ExactlyOne : Type 0
-ExactlyOne = (r : Rule) → Sound r → (HasOrphan r ⊎ (HasTwins r ⊎ HasWayBack r)) × ((HasOrphan r × HasTwins r → ⊥) × ((HasOrphan r × HasWayBack r → ⊥) × (HasTwins r × HasWayBack r → ⊥)))
+ExactlyOne = (r : Rule) → IsRule r → (HasOrphan r ⊎ (HasTwins r ⊎ HasWayBack r)) × ((HasOrphan r × HasTwins r → ⊥) × ((HasOrphan r × HasWayBack r → ⊥) × (HasTwins r × HasWayBack r → ⊥)))
 
 -- a rule has two rows of one next that differ in their middles only exactly if it has an orphan
 abbrev pub FiniteExactly : Type 0
-FiniteExactly = (r : Rule) → Sound r → HasFiniteTwins r ↔ HasOrphan r
+FiniteExactly = (r : Rule) → IsRule r → HasFiniteTwins r ↔ HasOrphan r
 
 -- what undoes a rule is undone by it
 abbrev pub BothWays : Type 0
-BothWays = (r : Rule) (v o : ℕ) (t : List ℕ) → Sound r → Back r v o t → (x : List ℕ) → Piece r x → length x ≡ v + (r.wide - 1) → next r (next (rule_of r.kinds v t) x) ≡ slice_index x o ∷ []
+BothWays = (r : Rule) (v o : ℕ) (t : List ℕ) → IsRule r → Back r v o t → (x : List ℕ) → Piece r x → length x ≡ v + (r.wide - 1) → next r (next (rule_of r.kinds v t) x) ≡ slice_index x o ∷ []
 
 -- the theorems about rules
 pub record Parts : Type 0 where

@@ -6,7 +6,7 @@ use Rattle.std.proofs.lemmas.List.{length-reverse, get_or-map, get_or_append_lef
 use Rattle.std.proofs.lemmas.Bool.{cases_lt}
 use Rattle.pairs.specs.declared.graph.Direction.TheVariants.{Past, Future}
 use Rattle.twins.specs.declared.Repeat.{Repeat}
-use Rattle.rules.specs.Rules.{Rule, Sound, digits, blocks_of, Row}
+use Rattle.rules.specs.Rules.{Rule, IsRule, Sound, digits, blocks_of, Row}
 use Rattle.theory.specs.Says.{OneNext, SameNext}
 use Rattle.pairs.specs.Pairs.{pairs_of, block_at, pair_at}
 use Rattle.rules.specs.Rows.{Puts}
@@ -28,8 +28,8 @@ differ_at (x ∷ u) (y ∷ w) long apart =
     ]
 
 -- pieces that have a pair of different blocks differ in it
-differ_in_pair : (r : Rule) → Sound r → {u w : List ℕ} (i x : ℕ) → OneNext r u w → i + (r.wide - 1) ≤ length u → pair_at r u w i ≡ x → Unlike r x → (o : ℕ) × (i ≤ o) × (o < i + (r.wide - 1)) × (get_or u o 0 ≡ get_or w o 0 → ⊥)
-differ_in_pair r sound {u} {w} i x one inside is unlike =
+differ_in_pair : (r : Rule) → IsRule r → {u w : List ℕ} (i x : ℕ) → OneNext r u w → i + (r.wide - 1) ≤ length u → pair_at r u w i ≡ x → Unlike r x → (o : ℕ) × (i ≤ o) × (o < i + (r.wide - 1)) × (get_or u o 0 ≡ get_or w o 0 → ⊥)
+differ_in_pair r rule {u} {w} i x one inside is unlike =
     let (j, j-in, here) = differ_at (block u) (block w) (long u refl ∙ sym (long w one.as_long)) (λ same. unlike (first ∙ ap (digits r.kinds 0) same ∙ sym second)) in
     let j-in-q : j < q = omega (arith, long u refl) in
     (i + j, omega arith, omega arith, λ same. here (at u j j-in-q ∙ same ∙ sym (at w j j-in-q)))
@@ -44,7 +44,7 @@ differ_in_pair r sound {u} {w} i x one inside is unlike =
     long v e = omega (arith, length-take q (drop i v), length-drop i v)
 
     below : block_at r w i < blocks_of r
-    below = block_lt r sound w i one.cells_w (omega (arith, one.as_long))
+    below = block_lt r rule w i one.cells_w (omega (arith, one.as_long))
 
     first : x / blocks_of r ≡ block_at r u i
     first = ap (λ n. n / blocks_of r) (sym is) ∙ div-mul-add (block_at r u i) (blocks_of r) (block_at r w i) below
@@ -67,7 +67,7 @@ cells_of_cut a b c u =
 abbrev pub pairs_along : List ℕ → List ℕ → ℕ → List ℕ
 pairs_along ps fs t = reverse (take t (drop 1 ps)) ++ fs
 
-module _ (r : Rule) (sound : Sound r) (x : ℕ) (ps fs : List ℕ) (past : Path r Past x ps) (future : Path r Future x fs) (t : ℕ) (t-in : t < length ps) where
+module _ (r : Rule) (rule : IsRule r) (x : ℕ) (ps fs : List ℕ) (past : Path r Past x ps) (future : Path r Future x fs) (t : ℕ) (t-in : t < length ps) where
   back_long : length (take t (drop 1 ps)) ≡ t
   back_long = omega (arith, length-take t (drop 1 ps), length-drop 1 ps)
 
@@ -90,19 +90,19 @@ module _ (r : Rule) (sound : Sound r) (x : ℕ) (ps fs : List ℕ) (past : Path 
       before : i < t → Link r (get_or (pairs_along ps fs t) i 0) (get_or (pairs_along ps fs t) (i + 1) 0)
       before l =
           let j : ℕ = t - (i + 1) in
-          let step = subst (λ n. Link r (get_or ps n 0) (get_or ps j 0)) {y = t - i} (omega arith) (link_back r sound (past.inside j (omega arith)) (past.steps j (omega arith))) in
+          let step = subst (λ n. Link r (get_or ps n 0) (get_or ps j 0)) {y = t - i} (omega arith) (link_back r rule (past.inside j (omega arith)) (past.steps j (omega arith))) in
           rw (pair_back i (omega arith), pair_back (i + 1) (omega arith)) step
 
       behind : t ≤ i → Link r (get_or (pairs_along ps fs t) i 0) (get_or (pairs_along ps fs t) (i + 1) 0)
       behind l =
           let j : ℕ = i - t in
-          let step = link_on r sound (future.inside j (omega arith)) (future.steps j (omega arith)) in
+          let step = link_on r rule (future.inside j (omega arith)) (future.steps j (omega arith)) in
           let at : (n i : ℕ) → t + n ≡ i → get_or fs n 0 ≡ get_or (pairs_along ps fs t) i 0 = λ n i e. sym (pair_on n) ∙ ap (λ k. get_or (pairs_along ps fs t) k 0) e in
           subst (λ y. Link r y (get_or (pairs_along ps fs t) (i + 1) 0)) (at j i (omega arith)) (subst (Link r (get_or fs j 0)) (at (j + 1) (i + 1) (omega arith)) step)
 
   -- the pieces of one next row that the paths are
   along : (m : ℕ) → m < length fs → PiecesAlong r (λ i. get_or (pairs_along ps fs t) i 0) (t + m)
-  along m m-in = pieces_along r sound (λ i. get_or (pairs_along ps fs t) i 0) (t + m) (rw (pair_back 0 (omega arith)) (past.inside (t - 0) (omega arith))) (links_along m m-in)
+  along m m-in = pieces_along r rule (λ i. get_or (pairs_along ps fs t) i 0) (t + m) (rw (pair_back 0 (omega arith)) (past.inside (t - 0) (omega arith))) (links_along m m-in)
 
   -- a cell for each pair but the last
   row_along : (m : ℕ) → m < length fs → (f : ℕ → ℕ) (v : List ℕ) → t + m ≤ length v → ((i : ℕ) → i < t + m → f (get_or (pairs_along ps fs t) i 0) ≡ get_or v i 0) → take (t + m) v ≡ map f (pairs_along ps (take m fs) t)
@@ -130,15 +130,15 @@ module _ (r : Rule) (sound : Sound r) (x : ℕ) (ps fs : List ℕ) (past : Path 
   module _ (m s l : ℕ) (m-in : m < length fs) (st : s < t) (lm : l < m) (same_left : get_or ps s 0 ≡ get_or ps t 0) (same-right : get_or fs l 0 ≡ get_or fs m 0) (far : r.wide - 1 ≤ l) (unlike : Unlike r x) where
     pub twins_along : (a : Row) × (b : Row) × SameNext r a b × (length a.left ≡ t - s) × (length a.mid ≡ s + l) × (length a.right ≡ m - l) × (cells_of a ≡ map (first_cell r) (pairs_along ps (take m fs) t)) × (cells_of b ≡ map (second_cell r) (pairs_along ps (take m fs) t))
     twins_along =
-        let (o, after, before, apart) = differ_in_pair r sound t x pieces.one (omega (arith, pieces.long)) (pieces.has t (omega arith) ∙ pair_back t (omega arith) ∙ ap (λ j. get_or ps j 0) {y = 0} (omega arith) ∙ past.from) unlike in (
+        let (o, after, before, apart) = differ_in_pair r rule t x pieces.one (omega (arith, pieces.long)) (pieces.has t (omega arith) ∙ pair_back t (omega arith) ∙ ap (λ j. get_or ps j 0) {y = 0} (omega arith) ∙ past.from) unlike in (
           cut a b c u,
           cut a b c w,
           twins_cut r (omega arith) a b c o u w pieces.one (record { inside = omega (arith, pieces.long); left = left_blocks.0; right = right_blocks.0 }) (record { inside = omega (arith, pieces.long, pieces.one.as_long); left = left_blocks.1; right = right_blocks.1 }) (omega arith) (omega arith) (omega arith) (omega arith) apart,
           omega (arith, length-take a u, pieces.long),
           omega (arith, length-take b (drop a u), length-drop a u, pieces.long),
           omega (arith, length-take c (drop (a + b) u), length-drop (a + b) u, pieces.long),
-          cells_of_cut a b c u ∙ ap (λ n. take n u) {y = t + m} (omega arith) ∙ row_along m m-in (first_cell r) u (omega (arith, pieces.long)) (λ i h. ap (first_cell r) (sym (pieces.has i (omega arith))) ∙ (cells_at r sound pieces.one i (omega (arith, pieces.long))).0),
-          cells_of_cut a b c w ∙ ap (λ n. take n w) {y = t + m} (omega arith) ∙ row_along m m-in (second_cell r) w (omega (arith, pieces.long, pieces.one.as_long)) (λ i h. ap (second_cell r) (sym (pieces.has i (omega arith))) ∙ (cells_at r sound pieces.one i (omega (arith, pieces.long))).1),
+          cells_of_cut a b c u ∙ ap (λ n. take n u) {y = t + m} (omega arith) ∙ row_along m m-in (first_cell r) u (omega (arith, pieces.long)) (λ i h. ap (first_cell r) (sym (pieces.has i (omega arith))) ∙ (cells_at r rule pieces.one i (omega (arith, pieces.long))).0),
+          cells_of_cut a b c w ∙ ap (λ n. take n w) {y = t + m} (omega arith) ∙ row_along m m-in (second_cell r) w (omega (arith, pieces.long, pieces.one.as_long)) (λ i h. ap (second_cell r) (sym (pieces.has i (omega arith))) ∙ (cells_at r rule pieces.one i (omega (arith, pieces.long))).1),
         )
       where
         pieces : PiecesAlong r (λ i. get_or (pairs_along ps fs t) i 0) (t + m)
@@ -164,12 +164,12 @@ module _ (r : Rule) (sound : Sound r) (x : ℕ) (ps fs : List ℕ) (past : Path 
 
         left_blocks : (take q u ≡ take q (drop a u)) × (take q w ≡ take q (drop a w))
         left_blocks =
-            blocks_from_pair r sound 0 a pieces.one pieces.one (omega (arith, pieces.long)) (omega (arith, pieces.long))
+            blocks_from_pair r rule 0 a pieces.one pieces.one (omega (arith, pieces.long)) (omega (arith, pieces.long))
             (pieces.has 0 (omega arith) ∙ pair_back 0 (omega arith) ∙ ap (λ j. get_or ps j 0) {y = t} (omega arith) ∙ sym same_left ∙ ap (λ j. get_or ps j 0) {y = t - a} (omega arith) ∙ sym (pair_back a (omega arith)) ∙ sym (pieces.has a (omega arith)))
 
         right_blocks : (take q (drop (a + b) u) ≡ take q (drop ((a + b) + c) u)) × (take q (drop (a + b) w) ≡ take q (drop ((a + b) + c) w))
         right_blocks =
-            blocks_from_pair r sound (a + b) ((a + b) + c) pieces.one pieces.one (omega (arith, pieces.long)) (omega (arith, pieces.long))
+            blocks_from_pair r rule (a + b) ((a + b) + c) pieces.one pieces.one (omega (arith, pieces.long)) (omega (arith, pieces.long))
             (at (a + b) l (omega arith) (omega arith) ∙ same-right ∙ sym (at ((a + b) + c) m (omega arith) (omega arith)))
           where
             at : (i n : ℕ) → i ≤ t + m → i ≡ t + n → pair_at r u w i ≡ get_or fs n 0
@@ -191,7 +191,7 @@ rows_fit r sound t m ps fs long-ps long-fs =
 pub written_along : (r : Rule) → Sound r → (q : ℕ) → q ≡ r.wide - 1 → (ps fs : List ℕ) → length ps ≡ pairs_of r + r.wide → length fs ≡ pairs_of r + r.wide → Path r Past (get_or ps 0 0) ps → Path r Future (get_or ps 0 0) fs → Unlike r (get_or ps 0 0) → (p p' : Repeat) → Repeated ps p → Repeated (take (length fs - q) (drop q fs)) p' → (o o' : List ℕ) → Puts o o' (map (first_cell r) (pairs_along ps (take (q + p'.end) fs) ((p.end + 1) - 1)) ++ map (second_cell r) (pairs_along ps (take (q + p'.end) fs) ((p.end + 1) - 1))) → TwinsWritten r o o' (record { left = p.end - p.start; mid = (p.start + q) + p'.start; right = p'.end - p'.start })
 written_along r sound q is ps fs long-ps long-fs past future unlike p p' left right o o' puts =
     let (lm, m-in, same) = repeated_behind q fs p' right in
-    let (a, b, same_next, long-left, long-mid, long-right, cells-a, cells-b) = twins_along r sound (get_or ps 0 0) ps fs past future p.end left.inside (q + p'.end) p.start (q + p'.start) m-in left.before (omega arith) left.same same (omega arith) unlike in
+    let (a, b, same_next, long-left, long-mid, long-right, cells-a, cells-b) = twins_along r sound.rule (get_or ps 0 0) ps fs past future p.end left.inside (q + p'.end) p.start (q + p'.start) m-in left.before (omega arith) left.same same (omega arith) unlike in
     record {
       a = a;
       b = b;

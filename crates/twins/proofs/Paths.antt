@@ -7,7 +7,7 @@ use Rattle.std.proofs.ByRecursion.{All-take, All-drop, All-append}
 use Rattle.std.proofs.lemmas.Bool.{cases_lt}
 use Rattle.pairs.specs.declared.graph.Direction.{Direction}
 use Rattle.pairs.specs.declared.graph.Direction.TheVariants.{Past, Future}
-use Rattle.rules.specs.Rules.{Rule, Sound, Piece, digits, blocks_of}
+use Rattle.rules.specs.Rules.{Rule, IsRule, Piece, digits, blocks_of}
 use Rattle.theory.specs.Says.{OneNext}
 use Rattle.pairs.specs.Pairs.{pairs_of, pair_at, Depths, Edge, neighbour_of}
 use Rattle.twins.specs.Twins.{Step, Path, Lasting, first_cell, second_cell}
@@ -16,10 +16,10 @@ use Rattle.pairs.proofs.Edges.{edge_from_has, towards_from_edge}
 use Rattle.pairs.proofs.Walks.{Link, walk_none, walk_link, walks_join}
 
 -- a pair that lasts has an edge to one that lasts: the others have fewer edges than there are pairs
-pub lasting_onward : (r : Rule) → Sound r → (d : Direction) (ws : List ℕ) (x : ℕ) → Depths r d ws → Lasting r ws x → (e : ℕ) × (e < r.kinds * r.kinds) × Edge r d x e × Lasting r ws (neighbour_of r d x e)
-lasting_onward r sound d ws x depths lasting =
+pub lasting_onward : (r : Rule) → IsRule r → (d : Direction) (ws : List ℕ) (x : ℕ) → Depths r d ws → Lasting r ws x → (e : ℕ) × (e < r.kinds * r.kinds) × Edge r d x e × Lasting r ws (neighbour_of r d x e)
+lasting_onward r rule d ws x depths lasting =
     let n = pairs_of r in
-    let (e, few, same, inside, has) = edge_from_has r sound d n x (((depths.each x lasting.inside).exact (n + 1)).1 (inr lasting.lasts)) in
+    let (e, few, same, inside, has) = edge_from_has r rule d n x (((depths.each x lasting.inside).exact (n + 1)).1 (inr lasting.lasts)) in
     let depth = depths.each (neighbour_of r d x e) inside in
     (e, few, same, record { inside = inside; lasts = ⊎_elim (λ less. ⊎_elim (λ l. absurd (omega arith)) (λ is. is) ((depth.exact n).0 has)) (λ is. is) depth.few })
 
@@ -65,12 +65,12 @@ module _ {r : Rule} {d : Direction} {x : ℕ} where
         steps = λ i h. rw (before i (omega arith), before (i + 1) h) at (path.steps i (omega arith));
       }
 
-module _ (r : Rule) (sound : Sound r) where
+module _ (r : Rule) (rule : IsRule r) where
   pub link_back : {x y : ℕ} → x < pairs_of r → Step r Past x y → Link r y x
-  link_back {x} h step = subst (λ z. Link r z x) (sym step.to) (towards_from_edge r sound Past x step.edge h step.few step.same)
+  link_back {x} h step = subst (λ z. Link r z x) (sym step.to) (towards_from_edge r rule Past x step.edge h step.few step.same)
 
   pub link_on : {x y : ℕ} → x < pairs_of r → Step r Future x y → Link r x y
-  link_on {x} h step = subst (Link r x) (sym step.to) (towards_from_edge r sound Future x step.edge h step.few step.same)
+  link_on {x} h step = subst (Link r x) (sym step.to) (towards_from_edge r rule Future x step.edge h step.few step.same)
 
 -- pieces of one next row that have the pairs f 0 to f n, in this order
 pub record PiecesAlong (r : Rule) (f : ℕ → ℕ) (n : ℕ) : Type 0 where
@@ -80,15 +80,15 @@ pub record PiecesAlong (r : Rule) (f : ℕ → ℕ) (n : ℕ) : Type 0 where
   pub long : length u ≡ n + (r.wide - 1)
   pub has : (i : ℕ) → i ≤ n → pair_at r u w i ≡ f i
 
-module _ (r : Rule) (sound : Sound r) where
+module _ (r : Rule) (rule : IsRule r) where
   pub pieces_along : (f : ℕ → ℕ) (n : ℕ) → f 0 < pairs_of r → ((i : ℕ) → i < n → Link r (f i) (f (i + 1))) → PiecesAlong r f n
   pieces_along f zero inside links =
-      let walk = walk_none r sound (f 0) inside in
+      let walk = walk_none r rule (f 0) inside in
       record { u = walk.u; w = walk.w; one = walk.one; long = walk.long; has = λ i h. subst (λ j. pair_at r walk.u walk.w j ≡ f j) {x = 0} (omega arith) walk.at_i }
   pieces_along f (suc n) inside links =
       let before = pieces_along f n inside (λ i h. links i (omega arith)) in
-      let (edge, at_1) = walk_link r sound (links n (omega arith)) in
-      let (u, w, one, long, front, rest) = walks_join r sound {a = n} {b = 1} (record { u = before.u; w = before.w; one = before.one; long = before.long; at_i = before.has n (omega arith) }) edge in
+      let (edge, at_1) = walk_link r rule (links n (omega arith)) in
+      let (u, w, one, long, front, rest) = walks_join r rule {a = n} {b = 1} (record { u = before.u; w = before.w; one = before.one; long = before.long; at_i = before.has n (omega arith) }) edge in
       record {
         u = u;
         w = w;

@@ -14,7 +14,7 @@ ghost use Rattle.rules.specs.Rows.{Puts};
 ghost use Rattle.twins.specs.Twins.{Step, Path, Lasting, Unlike, Repeated, first_cell, second_cell, TwinsWritten};
 
 use pairs::depths::PairDepths;
-use pairs::graph::{Direction, ENDLESS, PairGraph, pair_count};
+use pairs::graph::{ENDLESS, PairGraph, pair_count};
 use rules::sound::SoundRule;
 
 // How many cells the parts of each of two rows have.
@@ -54,14 +54,7 @@ pub fn write_twins(depths: PairDepths, pair: usize, out: &mut [u32], work: &mut 
     let rule = depths.rule;
     let steps = pair_count(rule) + rule.local.wide() as usize;
     let (back, on) = work[..2 * steps].split_at_mut(steps);
-    let past = PairGraph {
-        rule,
-        direction: Direction::Past,
-    };
-    let future = PairGraph {
-        rule,
-        direction: Direction::Future,
-    };
+    let (past, future) = PairGraph::both_ways(rule);
     walk(past, depths.pasts, pair, back);
     walk(future, depths.futures, pair, on);
     write_along(rule, TwoPaths { back, on }, out)

@@ -8,7 +8,7 @@ use Rattle.inverse.specs.declared.WayBack.{WayBack}
 use Rattle.inverse.specs.Inverse.{LeastTold, Endless}
 use Rattle.orphans.specs.Orphans.{words_of}
 use Rattle.pairs.specs.Pairs.{block_at, pair_at}
-use Rattle.rules.specs.Rules.{Rule, rule_of, Sound, Row, blocks_of, digits}
+use Rattle.rules.specs.Rules.{Rule, rule_of, IsRule, Sound, Row, blocks_of, digits}
 use Rattle.rules.proofs.Tables.{kinds_le}
 use Rattle.theory.specs.Says.{Least, Back, OneNext, SameNext}
 use Rattle.theory.proofs.Back.{back_same}
@@ -18,15 +18,15 @@ use Rattle.theory.proofs.Trichotomy.{one_of_three}
 use Rattle.pairs.proofs.Walks.{block_lt, walks_join}
 
 -- what is told and not less is a least way back
-pub least_from_tells : (r : Rule) → Sound r → (w : WayBack) → LeastTold r w → (t : List ℕ) × Least r w.width w.place t
-least_from_tells r sound w told =
-    let (t, way) = back_from_tells r sound w.width w.place told.some told.inside told.tells in
+pub least_from_tells : (r : Rule) → IsRule r → (w : WayBack) → LeastTold r w → (t : List ℕ) × Least r w.width w.place t
+least_from_tells r rule w told =
+    let (t, way) = back_from_tells r rule w.width w.place told.some told.inside told.tells in
     (t, record { is = way; none_less = told.least })
 
 -- a pair of different blocks with an endless past and an endless future leaves no way back: far enough from both ends it would
 -- tell the two blocks
-no_back_from_endless : (r : Rule) → Sound r → (x : ℕ) → Endless r x → (v o : ℕ) (t : List ℕ) → Back r v o t → ⊥
-no_back_from_endless r sound x endless v o t way = endless.apart (ap (λ a. a / blocks_of r) (sym pair) ∙ div-mul-add b (blocks_of r) b b_in ∙ sym (mod-mul-add b (blocks_of r) b b_in) ∙ ap (λ a. a % blocks_of r) pair)
+no_back_from_endless : (r : Rule) → IsRule r → (x : ℕ) → Endless r x → (v o : ℕ) (t : List ℕ) → Back r v o t → ⊥
+no_back_from_endless r rule x endless v o t way = endless.apart (ap (λ a. a / blocks_of r) (sym pair) ∙ div-mul-add b (blocks_of r) b b_in ∙ sym (mod-mul-add b (blocks_of r) b b_in) ∙ ap (λ a. a % blocks_of r) pair)
   where
     q : ℕ
     q = r.wide - 1
@@ -37,7 +37,7 @@ no_back_from_endless r sound x endless v o t way = endless.apart (ap (λ a. a / 
     joined : (u : List ℕ) × (w : List ℕ) × OneNext r u w × (length u ≡ (n + n) + q) × (pair_at r u w n ≡ x)
     joined =
         let f = endless.past n in
-        let (u, w, one, long, front, _) = walks_join r sound f (endless.future n) in
+        let (u, w, one, long, front, _) = walks_join r rule f (endless.future n) in
         (u, w, one, long, front n (omega arith) ∙ f.at_i)
 
     u : List ℕ
@@ -53,7 +53,7 @@ no_back_from_endless r sound x endless v o t way = endless.apart (ap (λ a. a / 
     b = block_at r u n
 
     b_in : b < blocks_of r
-    b_in = block_lt r sound u n one.cells_u (omega (arith, joined.3))
+    b_in = block_lt r rule u n one.cells_u (omega (arith, joined.3))
 
     same_block : take q (drop n u) ≡ take q (drop n w)
     same_block = ext_get_or 0 (take q (drop n u)) (take q (drop n w)) (omega (arith, long u, long w, joined.3, one.as_long)) (λ i h. let inside : i < q = omega (arith, long u, joined.3) in cell u i inside ∙ back_same r (omega arith) v o t way u w one.cells_u one.cells_w one.as_long one.same (n + i) (omega arith) (omega (arith, joined.3)) ∙ sym (cell w i inside))
@@ -68,9 +68,9 @@ no_back_from_endless r sound x endless v o t way = endless.apart (ap (λ a. a / 
     pair = ap (λ y. b * blocks_of r + digits r.kinds 0 y) same_block ∙ joined.4
 
 -- so without an orphan there are two rows of one next
-pub twins_from_endless : (r : Rule) → Sound r → NoOrphans r → (x : ℕ) → Endless r x → (a : Row) × (b : Row) × SameNext r a b
-twins_from_endless r sound none x endless =
-    ⊎_elim (λ (y, orphan). absurd (none y orphan)) (⊎_elim (λ (a, b, twins, _). (a, b, twins)) (λ (v, o, t, way). absurd (no_back_from_endless r sound x endless v o t way))) (one_of_three r sound)
+pub twins_from_endless : (r : Rule) → IsRule r → NoOrphans r → (x : ℕ) → Endless r x → (a : Row) × (b : Row) × SameNext r a b
+twins_from_endless r rule none x endless =
+    ⊎_elim (λ (y, orphan). absurd (none y orphan)) (⊎_elim (λ (a, b, twins, _). (a, b, twins)) (λ (v, o, t, way). absurd (no_back_from_endless r rule x endless v o t way))) (one_of_three r rule)
 
 -- the words of work that a rule needs are fewer than those that are asked for
 pub enough : (r : Rule) → Sound r → words_of r ≤ 524288

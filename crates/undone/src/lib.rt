@@ -11,7 +11,7 @@ ghost use Rattle.rules.specs.Local.{the_rule};
 use bfs::TooLong;
 use inverse::table::write_way_back;
 use inverse::{TwinPair, WayBack, least_way_back};
-use orphans::first_orphan_by_halves;
+use orphans::first_orphan;
 use pairs::depths::{PairDepths, measure_pairs};
 use pairs::graph::pair_count;
 use rules::sound::SoundRule;
@@ -49,7 +49,7 @@ pub fn decide(kinds: u32, wide: u32, table: &[u32], out: &mut [u32], work: &mut 
     let Ok(rule) = SoundRule::try_new(kinds, wide, table) else {
         return Decided::NoRule;
     };
-    match first_orphan_by_halves(rule, out, work) {
+    match first_orphan(rule, out, work) {
         Ok(Some(n)) => Decided::Orphan(n),
         Ok(None) => invert(rule, out, work),
         Err(TooLong { wanted }) => Decided::OrphanFull(wanted),

@@ -2,10 +2,11 @@
 
 // What the programs share that answer files of rules, to be compared with the answers of independent programs. Which twins are told is
 // open, so the rows are run here.
-ghost use Rattle.std.specs.Prelude.{◌≡◌, ◌≤◌, ◌↔◌, ℕ, IsTrue, IfOk};
+ghost use Rattle.std.specs.Prelude.{◌≡◌, MatchResult};
 ghost use Rattle.rules.specs.Local.{the_rule};
-ghost use Rattle.rules.specs.Rules.{next, part};
+ghost use Rattle.rules.specs.Rules.{Piece, next, part};
 ghost use Rattle.answers.specs.Endless.{row_of};
+ghost use Rattle.vector_lines.specs.OneNext.{TellsSame, NotSeen, NoNextRow};
 
 use answers::endless::EndlessRow;
 use answers::given::GivenRule;
@@ -60,7 +61,9 @@ pub fn have_one_next(
     first: EndlessRow,
     second: EndlessRow,
 ) -> Result<bool, Fault>
-    ensures { IfOk result (λ same. IsTrue same ↔ ((n : ℕ) → n ≤ rule.entry.wide → next (the_rule rule.entry) (part (row_of first.entry) n) ≡ next (the_rule rule.entry) (part (row_of second.entry) n))) }
+    ensures { MatchResult result
+        (TellsSame (the_rule rule.entry) (row_of first.entry) (row_of second.entry))
+        (NotSeen (the_rule rule.entry) (row_of first.entry) (row_of second.entry)) }
 {
     for copies in 0..rule.wide() as usize + 1 {
         if next_of(heap, rule, first, copies)? != next_of(heap, rule, second, copies)? {
@@ -72,7 +75,9 @@ pub fn have_one_next(
 
 // The next row of the middle of a row with so many copies on both sides.
 fn next_of(heap: Global, rule: LocalRule, row: EndlessRow, copies: usize) -> Result<Vec<u32>, Fault>
-    ensures { IfOk result (λ v. v.items ≡ next (the_rule rule.entry) (part (row_of row.entry) copies)) }
+    ensures { MatchResult result
+        (λ v. Piece (the_rule rule.entry) (part (row_of row.entry) copies) × (v.items ≡ next (the_rule rule.entry) (part (row_of row.entry) copies)))
+        (NoNextRow (the_rule rule.entry) (part (row_of row.entry) copies)) }
 {
     let piece = row.piece(heap, copies)?;
     Ok(next_cells(heap, rule, piece.as_slice())?)

@@ -12,6 +12,6 @@ returns-in-Some c = subst (λ r. Answer r c.args.out.now c.tell.new.out c.tell.r
 pub returns-in-None : goal.returns-in-None
 returns-in-None c =
     let d = c.new-diamonds.result in
-    let none = none_from_word (the_rule d.rule.local) (sound_rule d.rule) c.in-None.ensures in
+    let none = none_from_word (the_rule d.rule.local) (sound_rule d.rule).rule c.in-None.ensures in
     let (rows, orphan) = subst (λ r. (HasFiniteTwins r → ⊥) × (HasOrphan r → ⊥)) c.new-diamonds.ensures none in
     (rows, orphan, refl)

@@ -13,7 +13,7 @@ use Rattle.finite.proofs.tell.Goals.{After-wide}
 -- what the word tells
 found : (c : After-wide) → Found (the_rule c.args.diamonds.rule.local) (get_or c.args.word.now 0 0) (take (length c.args.word.now - 1) (drop 1 c.args.word.now))
 found c =
-    found_at (the_rule c.args.diamonds.rule.local) (sound_rule c.args.diamonds.rule) c.args.word.now c.in-len1-up.len_at_least c.requires.first
+    found_at (the_rule c.args.diamonds.rule.local) (sound_rule c.args.diamonds.rule).rule c.args.word.now c.in-len1-up.len_at_least c.requires.first
 
 pub returns-then-wanted-out : goal.returns-then-wanted-out
 returns-then-wanted-out c =
@@ -25,7 +25,7 @@ returns-then-wanted-out c =
 pub write_rows-requires-clause-block : goal.write_rows-requires-clause-block
 write_rows-requires-clause-block c =
     let f = found (goal.at.write_rows-requires-clause-block c).After-wide in
-    subst (λ n. n < blocks_of (the_rule c.args.diamonds.rule.local)) f.block.number (number_lt (the_rule c.args.diamonds.rule.local) (sound_rule c.args.diamonds.rule) (record { cells = f.block.cells; long = f.block.long }))
+    subst (λ n. n < blocks_of (the_rule c.args.diamonds.rule.local)) f.block.number (number_lt (the_rule c.args.diamonds.rule.local) (sound_rule c.args.diamonds.rule).rule (record { cells = f.block.cells; long = f.block.long }))
 
 pub write_rows-requires-clause-symbols : goal.write_rows-requires-clause-symbols
 write_rows-requires-clause-symbols c = (found (goal.at.write_rows-requires-clause-symbols c).After-wide).symbols

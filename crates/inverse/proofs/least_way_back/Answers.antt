@@ -8,7 +8,7 @@ use Rattle.inverse.proofs.least_way_back.Goals as goal
 use Rattle.inverse.proofs.least_way_back.Goals.{In_default-first_told}
 
 pub widths-init : goal.widths-init
-widths-init c = refuted_none (sound_rule c.args.depths.rule)
+widths-init c = refuted_none (sound_rule c.args.depths.rule).rule
 
 pub first_told-requires-clause-fits : goal.first_told-requires-clause-fits
 first_told-requires-clause-fits c =
@@ -29,7 +29,7 @@ returns-in-Some-first_told c =
 -- no width that is refuted is the last
 further : (c : In_default-first_told) → c.widths.width < pairs_of (the_rule c.args.depths.rule.local) + pairs_of (the_rule c.args.depths.rule.local)
 further c =
-    none_told_lt (the_rule c.args.depths.rule.local) (sound_rule c.args.depths.rule) c.args.depths.pasts.now c.args.depths.futures.now c.requires.pasts c.requires.futures c.in_default.ensures c.widths.width c.in_default-first_told.ensures
+    none_told_lt (the_rule c.args.depths.rule.local) (sound_rule c.args.depths.rule).rule c.args.depths.pasts.now c.args.depths.futures.now c.requires.pasts c.requires.futures c.in_default.ensures c.widths.width c.in_default-first_told.ensures
 
 pub widths-smaller : goal.widths-smaller
 widths-smaller c = let h = further c in omega arith

@@ -8,12 +8,12 @@ use Rattle.twins.proofs.write_rows.Goals as goal
 
 pub write_row-requires-clause-worth : goal.write_row-requires-clause-worth
 write_row-requires-clause-worth c =
-    let pos = (worth_pos (the_rule c.args.rule.local) (sound_rule c.args.rule)).0 in
+    let pos = (worth_pos (the_rule c.args.rule.local) (sound_rule c.args.rule).rule).0 in
     subst (λ n. 0 < n) (sym (ap₂ (λ b k. b * b / k) c.blocks-blocks.ensures c.kinds-kinds.ensures)) pos
 
 pub write_row-requires-2-clause-worth : goal.write_row-requires-2-clause-worth
 write_row-requires-2-clause-worth c =
-    let pos = (worth_pos (the_rule c.args.rule.local) (sound_rule c.args.rule)).1 in
+    let pos = (worth_pos (the_rule c.args.rule.local) (sound_rule c.args.rule).rule).1 in
     subst (λ n. 0 < n) (sym (ap₂ ◌/◌ c.blocks-blocks.ensures c.kinds-kinds.ensures)) pos
 
 pub returns : goal.returns

@@ -15,8 +15,8 @@ pub returns-in_default : goal.returns-in_default
 returns-in_default c =
     decided_no_rule _ _ _ _ _ (omega arith) (λ s. absurd (false≢true (c.in_default.ensures.exact s)))
 
-pub first_orphan_by_halves-requires : goal.first_orphan_by_halves-requires
-first_orphan_by_halves-requires c =
+pub first_orphan-requires : goal.first_orphan-requires
+first_orphan-requires c =
     omega (arith, enough (the_rule c.in-Ok.rule.local) (sound_rule c.in-Ok.rule))
 
 -- an answer that holds of the checked table

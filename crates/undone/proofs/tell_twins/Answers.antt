@@ -12,7 +12,7 @@ use Rattle.undone.proofs.tell_twins.Goals as goal
 
 pub returns-then-out-lt-ROWS : goal.returns-then-out-lt-ROWS
 returns-then-out-lt-ROWS c =
-    (c.requires.none, twins_from_endless (the_rule c.args.depths.rule.local) (sound_rule c.args.depths.rule) c.requires.none c.args.pair c.requires.pair, c.if-out-lt-ROWS.true, refl)
+    (c.requires.none, twins_from_endless (the_rule c.args.depths.rule.local) (sound_rule c.args.depths.rule).rule c.requires.none c.args.pair c.requires.pair, c.if-out-lt-ROWS.true, refl)
 
 -- the word of a pair that lasts
 lasting : (r : Rule) (d : Direction) (ws : List ℕ) (x : ℕ) → Depths r d ws → x < pairs_of r → ((n : ℕ) → Has r d n x) → Lasting r ws x

@@ -6,8 +6,8 @@ use Rattle.undone.proofs.tell_way_back.Goals as goal
 
 pub returns-in_default : goal.returns-in_default
 returns-in_default c =
-    (least_from_tells (the_rule c.args.rule.local) (sound_rule c.args.rule) c.args.told c.requires, omega (arith, ap (λ k. k ^ c.args.told.width) c.kinds.ensures, c.in_default.ensures), refl)
+    (least_from_tells (the_rule c.args.rule.local) (sound_rule c.args.rule).rule c.args.told c.requires, omega (arith, ap (λ k. k ^ c.args.told.width) c.kinds.ensures, c.in_default.ensures), refl)
 
 pub returns-then-cells-out : goal.returns-then-cells-out
 returns-then-cells-out c =
-    (least_from_tells (the_rule c.args.rule.local) (sound_rule c.args.rule) c.args.told c.requires, omega (arith, ap (λ k. k ^ c.args.told.width) c.kinds.ensures, c.in-Some.ensures), refl)
+    (least_from_tells (the_rule c.args.rule.local) (sound_rule c.args.rule).rule c.args.told c.requires, omega (arith, ap (λ k. k ^ c.args.told.width) c.kinds.ensures, c.in-Some.ensures), refl)

@@ -1,4 +1,3 @@
-use Rattle.std.proofs.Common.{◌≡◌, ◌≤◌, ℕ, ◌+◌}
 use Rattle.rules.specs.Local.{the_rule}
 use Rattle.answers.specs.Endless.{row_of}
 use Rattle.vector_lines.proofs.Same.{SameBelow}

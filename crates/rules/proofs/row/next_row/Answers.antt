@@ -12,7 +12,8 @@ wanted : (c : After-saturating_sub-wanted) → c.saturating_sub-wanted.result �
 wanted c = omega (arith, length-next_block (the_rule c.args.rule) c.args.rule.some c.args.row.now)
 
 pub returns-then-out-wanted : goal.returns-then-out-wanted
-returns-then-out-wanted c = (refl, (wanted (goal.at.returns-then-out-wanted c).After-saturating_sub-wanted, c.if-out-wanted.true))
+returns-then-out-wanted c =
+    (refl, (subst (λ k. Cells k c.args.row.now) c.kinds.ensures c.in_default.ensures, wanted (goal.at.returns-then-out-wanted c).After-saturating_sub-wanted, c.if-out-wanted.true))
 
 pub cell_of-requires : goal.cell_of-requires
 cell_of-requires c = (
@@ -31,4 +32,4 @@ loop-i-preserved c =
 pub returns : goal.returns
 returns c =
     let is = wanted (goal.at.returns c).After-saturating_sub-wanted in
-    (is, puts_from_filled c.loop-i.invariant (omega arith))
+    (subst (λ k. Cells k c.args.row.now) c.kinds.ensures c.in_default.ensures, is, puts_from_filled c.loop-i.invariant (omega arith))

@@ -1,10 +1,14 @@
 use Rattle.std.proofs.Common.{◌≡◌, ◌^◌, ◌≤◌, take, length, sym, ap, ◌∙◌, subst, take_at, arith, length-take}
 use Rattle.std.proofs.lemmas.Result.{err_from_is_err_and}
+use Rattle.rules.proofs.Tables.{kinds_le}
 use Rattle.rules.specs.Rules.{rule_of}
 use Rattle.running.specs.Runs.{LeastBack, moved}
 use Rattle.running.specs.Tables.{rule_in}
 use Rattle.running.proofs.Backs.{least_back, no_least_back}
 use Rattle.running.proofs.find.backwards_table.Goals as goal
+
+pub new-requires-clause-digits : goal.new-requires-clause-digits
+new-requires-clause-digits c = subst (λ k. k ≤ 16) (sym c.kinds-kinds.ensures) (kinds_le c.args.given.now.sound)
 
 pub returns-in_err-told : goal.returns-in_err-told
 returns-in_err-told c =

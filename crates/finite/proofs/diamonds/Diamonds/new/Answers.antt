@@ -14,7 +14,7 @@ sizes c =
       subst (λ b. b * b ≤ 256) (sym c.blocks-blocks.ensures) (pairs_le r sound),
       omega (arith, windows_le r sound, ap₂ ◌*◌ c.blocks-blocks.ensures c.kinds-kinds.ensures),
       subst (λ k. k * k ≤ 256) (sym c.kinds-kinds.ensures) (symbols_le r sound),
-      subst (λ b. 0 < b) (sym c.blocks-blocks.ensures) (blocks_pos r sound),
+      subst (λ b. 0 < b) (sym c.blocks-blocks.ensures) (blocks_pos r sound.rule),
     )
 
 pub split_at_mut-windows-requires : goal.split_at_mut-windows-requires

@@ -11,7 +11,7 @@ pub rounds-init : goal.rounds-init
 rounds-init c =
     let r = the_rule c.args.self.rule.local in
     let ws = c.fill.new.self in
-    let rounds = rounds_none r (sound_rule c.args.self.rule) c.args.self.direction (length c.args.words.now) ws c.requires (c.fill.ensures.after (λ _ e. e)) in
+    let rounds = rounds_none r (sound_rule c.args.self.rule).rule c.args.self.direction (length c.args.words.now) ws c.requires (c.fill.ensures.after (λ _ e. e)) in
     (rounds, omega (arith, count_by-le-length (eqb endless) ws, rounds.long))
 
 pub returns : goal.returns
@@ -21,4 +21,4 @@ returns c =
     let most = pairs_le r (sound_rule c.args.self.rule) in
     let few = c.rounds.invariant.1 in
     let same = c.drop_pairs.ensures.same c.rounds-test.false in
-    depths_from_rounds r (sound_rule c.args.self.rule) c.args.self.direction n (omega arith) c.drop_pairs.new.words (subst (Rounds r c.args.self.direction n) (sym same) c.rounds.invariant.0) c.drop_pairs.ensures.more (omega arith)
+    depths_from_rounds r (sound_rule c.args.self.rule).rule c.args.self.direction n (omega arith) c.drop_pairs.new.words (subst (Rounds r c.args.self.direction n) (sym same) c.rounds.invariant.0) c.drop_pairs.ensures.more (omega arith)

@@ -1,0 +1,3 @@
+-- Why pictures of reasons are drawn, but for failures.
+pub mod Refusals
+pub mod Rings

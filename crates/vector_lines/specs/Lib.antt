@@ -1,0 +1,2 @@
+-- Rows that have one next row: the definitions that the contracts cite.
+pub mod OneNext
