@@ -1,16 +1,17 @@
 #![tactic(auto)]
 
 // The least way back of a rule, by the pasts and the futures of its pairs.
-ghost use Rattle.std.specs.Prelude.{◌≡◌, ℕ, ◌+◌, ◌-◌, ◌<◌, ◌≤◌, Decides, MatchOption, ◌^◌};
+ghost use Rattle.std.specs.Prelude.{◌≡◌, ℕ, ◌+◌, ◌-◌, ◌<◌, ◌≤◌, length, Decides, MatchOption, ◌^◌};
 ghost use Rattle.inverse.specs.Inverse.{Answers, Apart, Endless, FirstTold, NoneTold};
 ghost use Rattle.rules.specs.Local.{the_rule};
 ghost use Rattle.pairs.specs.Measured.{Measured};
+ghost use Rattle.pairs.specs.Pairs.{pairs_of, Graph};
 ghost use Rattle.theory.specs.Says.{Tells};
 
 pub mod table;
 
-use pairs::depths::PairDepths;
-use pairs::graph::ENDLESS;
+use pairs::depths::{PairDepths, measure_pairs};
+use pairs::graph::{ENDLESS, pair_count};
 use rules::sound::SoundRule;
 
 // A width of a way back, and the place whose cell so many cells of the next row tell.
@@ -25,8 +26,25 @@ pub struct WayBack {
 #[derive(Clone, Copy, PartialEq, Eq, Debug)]
 pub struct TwinPair(pub usize);
 
-// The least width, and there the first place, whose cell the next row tells.
-pub fn least_way_back(depths: PairDepths) -> Result<WayBack, TwinPair>
+// The least width, and there the first place, whose cell the next row tells, or a pair for which there is none. The words from
+// `base` on then have the pasts of the pairs, and behind them the futures.
+pub fn least_way_back(rule: SoundRule, base: usize, work: &mut [u32]) -> Result<WayBack, TwinPair>
+    requires { (base + pairs_of (the_rule rule.local)) + pairs_of (the_rule rule.local) ≤ length work.old }
+    ensures answers { Answers (the_rule rule.entry.local) result }
+    ensures graph { Graph (the_rule rule.entry.local) base work.old work.new }
+{
+    measure_pairs(rule, base, work);
+    let pairs = pair_count(rule);
+    let middle = base + pairs;
+    least_told(PairDepths {
+        rule,
+        pasts: &work[base..middle],
+        futures: &work[middle..middle + pairs],
+    })
+}
+
+// The same of pairs that are measured.
+pub fn least_told(depths: PairDepths) -> Result<WayBack, TwinPair>
     requires { Measured depths }
     ensures { Answers (the_rule depths.entry.rule.local) result }
 {

@@ -12,7 +12,7 @@ use bfs::TooLong;
 use inverse::table::write_way_back;
 use inverse::{TwinPair, WayBack, least_way_back};
 use orphans::first_orphan;
-use pairs::depths::{PairDepths, measure_pairs};
+use pairs::depths::PairDepths;
 use pairs::graph::pair_count;
 use rules::sound::SoundRule;
 use twins::write_twins;
@@ -62,18 +62,20 @@ fn invert(rule: SoundRule, out: &mut [u32], work: &mut [u32]) -> Decided
     requires room { 524288 ≤ length work.old }
     ensures { Answer (the_rule rule.entry.local) out.old out.new result }
 {
-    measure_pairs(rule, 0, work);
-    let pairs = pair_count(rule);
-    let (words, paths) = work.split_at_mut(2 * pairs);
-    let (pasts, futures) = words.split_at(pairs);
-    let depths = PairDepths {
-        rule,
-        pasts,
-        futures,
-    };
-    match least_way_back(depths) {
+    match least_way_back(rule, 0, work) {
         Ok(told) => tell_way_back(rule, told, out),
-        Err(TwinPair(pair)) => tell_twins(depths, pair, out, paths),
+        Err(TwinPair(pair)) => {
+            // The words of work begin with the pasts and the futures of the pairs.
+            let pairs = pair_count(rule);
+            let (words, paths) = work.split_at_mut(2 * pairs);
+            let (pasts, futures) = words.split_at(pairs);
+            let depths = PairDepths {
+                rule,
+                pasts,
+                futures,
+            };
+            tell_twins(depths, pair, out, paths)
+        }
     }
 }
 

@@ -4,8 +4,8 @@ use Rattle.rules.proofs.Tables.{sound_rule}
 use Rattle.pairs.specs.Pairs.{pairs_of}
 use Rattle.pairs.proofs.Walks.{pairs_le, wide_le}
 use Rattle.inverse.proofs.Widths.{none_less, refuted_none, refuted_more, none_told_lt}
-use Rattle.inverse.proofs.least_way_back.Goals as goal
-use Rattle.inverse.proofs.least_way_back.Goals.{In_default-first_told}
+use Rattle.inverse.proofs.least_told.Goals as goal
+use Rattle.inverse.proofs.least_told.Goals.{In_default-first_told}
 
 pub widths-init : goal.widths-init
 widths-init c = refuted_none (sound_rule c.args.depths.rule).rule

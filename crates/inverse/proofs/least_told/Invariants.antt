@@ -2,7 +2,7 @@ use Rattle.std.proofs.Common.{◌+◌, ◌-◌}
 use Rattle.rules.specs.Local.{the_rule}
 use Rattle.pairs.specs.Pairs.{pairs_of}
 use Rattle.inverse.proofs.Widths.{Refuted}
-use Rattle.inverse.proofs.least_way_back.Given as goal
+use Rattle.inverse.proofs.least_told.Given as goal
 
 abbrev pub invariant-widths : goal.invariant-widths
 invariant-widths l = Refuted (the_rule l.depths.rule.local) l.width
