@@ -59,10 +59,11 @@ pub fn one_rule_words<'a>(heap: Global) -> Arg<'a> {
         .long_help(ONE_RULE_HELP)
 }
 
-// All words that are no options. A negative number is one of them, so that it is told what is wrong with it.
+// All words that are no options, wherever options stand among them. A negative number is one of them, so that it is told what is
+// wrong with it.
 fn words_of<'a>(heap: Global) -> Arg<'a> {
     Arg::new(heap, RULE)
-        .action(ArgAction::Set)
+        .action(ArgAction::Append)
         .num_args(1..)
         .allow_negative_numbers(true)
 }
