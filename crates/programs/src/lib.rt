@@ -10,4 +10,5 @@ mod lines;
 mod progress;
 mod rule_lines;
 pub mod run;
+mod start;
 mod texts;

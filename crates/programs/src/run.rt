@@ -1,15 +1,15 @@
 // The command `run`: a row in a ring, forwards by a rule, or backwards by a way back.
 use crate::files::{WholeFile, beside_file};
 use crate::progress::Watched;
-use crate::texts::{STREAM, read_row, read_table};
-use arguments::requests::{Asked, Output, RunRequest, Source};
+use crate::start::RequestedStart;
+use crate::texts::{STREAM, read_table};
+use arguments::requests::{Asked, Output, RunRequest};
 use arguments::run::parse_run;
 use faults::fault::Fault;
 use running::output::{Diagram, Printed};
 use running::prepare::{prepare, run_rows};
 use running::ready::ReadyRun;
 use running::run::Run;
-use running::start::Start;
 use std::io::{BufWriter, IsTerminal, Write};
 use svg::drawing::NoDrawing;
 use text::print::Alphabet;
@@ -43,17 +43,16 @@ fn run_request(rt: &HostRuntime, request: RunRequest) -> Result<(), Fault> {
         steps,
         last,
     };
-    let start = start_of(rt, source)?;
-    let ready = match (prepare(rt.alloc(), words.as_slice(), &run, &start), &output) {
+    let start = RequestedStart { rt, source };
+    let ready = match (prepare(rt.alloc(), words.as_slice(), &run, start), &output) {
         (Ok(ready), _) => ready,
         (Err(fault), Output::File(file)) => {
             return Err(beside_file(rt.alloc(), fault, file.as_str())?);
         }
         (Err(fault), _) => return Err(fault),
     };
-    // The texts of a large table and of a long row are let go before they are run.
+    // The text of a large table is let go before it is run, as that of a long row is by now.
     drop(words);
-    drop(start);
     match output {
         Output::Digits => print_rows(rt, ready, run, Alphabet::Digits),
         Output::Glyphs => print_rows(rt, ready, run, Alphabet::Glyphs),
@@ -68,14 +67,6 @@ fn title_of(rt: &HostRuntime, words: &[String]) -> Result<String, Fault> {
         write!(title, " {word:.64}")?;
     }
     Ok(title)
-}
-
-fn start_of(rt: &HostRuntime, source: Source) -> Result<Start, Fault> {
-    match source {
-        Source::Row(typed) => Ok(Start::Given(read_row(rt, typed)?)),
-        Source::Random { cells, seed } => Ok(Start::Random { cells, seed }),
-        Source::Single { cells } => Ok(Start::Single { cells }),
-    }
 }
 
 // Prints the rows. Those that come one by one on a terminal show themselves how far the run is.

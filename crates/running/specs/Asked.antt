@@ -24,6 +24,15 @@ pub record Asked (ws : List (List ℕ)) (run : Run) (start : Start) (us : List (
 abbrev pub NotAsked : List (List ℕ) → Run → Start → Fault → Type 0
 NotAsked ws run start e = OutOfMemory e ⊎ ((us : List (List ℕ)) → Asked ws run start us → ⊥)
 
+-- the rows us are asked for from a start that is given
+abbrev pub AskedFrom : (Start → Type 0) → List (List ℕ) → Run → List (List ℕ) → Type 0
+AskedFrom gives ws run us = (start : Start) × gives start × Asked ws run start us
+
+-- why no rows are, where starts are given so, or fail to be: that failed, of words by which something runs; or none are asked for
+-- from any start, or from one that was given
+abbrev pub NotAskedFrom : (Start → Type 0) → (Fault → Type 0) → List (List ℕ) → Run → Fault → Type 0
+NotAskedFrom gives fails ws run e = ((r : Rule) × (p : ℕ) × Runs ws run 1 r p × fails e) ⊎ (((start : Start) → NotAsked ws run start e) ⊎ ((start : Start) × gives start × NotAsked ws run start e))
+
 -- the rows of a run that is ready
 abbrev pub rows_of : ReadyRun → List (List ℕ)
 rows_of a = shown_rows a.last (rule_in a.table) (place_on a.table (length a.row.items)) a.steps a.row.items

@@ -42,3 +42,11 @@ BadLength n e = ⊥
 -- why there is no first row: its word is not read, or its row is too short or too long; want of memory says nothing of the start
 abbrev pub NoFirstRow : ℕ → Start → Fault → Type 0
 NoFirstRow k start e = OutOfMemory e ⊎ (NotRead k start e ⊎ ((u : List ℕ) × Starts k start u × BadLength (length u) e))
+
+-- u is the row of k kinds of a start that is given
+abbrev pub FirstRowFrom : (Start → Type 0) → ℕ → List ℕ → Type 0
+FirstRowFrom gives k u = (start : Start) × gives start × FirstRow k start u
+
+-- why there is no first row, where starts are given so, or fail to be: that failed, or one that was given has none
+abbrev pub NoFirstRowFrom : (Start → Type 0) → (Fault → Type 0) → ℕ → Fault → Type 0
+NoFirstRowFrom gives fails k e = fails e ⊎ ((start : Start) × gives start × NoFirstRow k start e)

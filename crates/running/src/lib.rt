@@ -7,5 +7,6 @@ pub mod output;
 pub mod prepare;
 pub mod ready;
 pub mod run;
+pub mod source;
 pub mod start;
 pub mod table;

@@ -1,25 +1,31 @@
 // From words to rows.
 ghost use Rattle.std.specs.Prelude.{map, string_bytes, MatchResult};
 ghost use Rattle.faults.specs.Failure.{Failure};
-ghost use Rattle.running.specs.Asked.{Asked, NotAsked, rows_of};
+ghost use Rattle.running.specs.Asked.{AskedFrom, NotAskedFrom, rows_of};
 
 use crate::find::find_table;
 use crate::output::Rows;
 use crate::ready::ReadyRun;
 use crate::run::{Run, add_each, add_last};
-use crate::start::{Start, first_row};
+use crate::source::StartSource;
 use faults::fault::Fault;
 use rows::ring_row::RingRow;
 use std::alloc::Global;
 
-/// What the words ask to be run so, from the row at the start. Nothing is run yet.
-pub fn prepare(heap: Global, words: &[String], run: &Run, start: &Start) -> Result<ReadyRun, Fault>
+/// What the words ask to be run so, from the row at the start. Nothing is run yet. Where the start comes from is asked only of
+/// words by which something runs.
+pub fn prepare<S: StartSource + Drop>(
+    heap: Global,
+    words: &[String],
+    run: &Run,
+    start: S,
+) -> Result<ReadyRun, Fault>
     ensures { MatchResult result
-        (λ ready. Asked (map string_bytes words.now) run.now start.now (rows_of ready))
-        (NotAsked (map string_bytes words.now) run.now start.now) }
+        (λ ready. AskedFrom (S.gives start) (map string_bytes words.now) run.now (rows_of ready))
+        (NotAskedFrom (S.gives start) (S.fails start) (map string_bytes words.now) run.now) }
 {
     let table = find_table(heap, words, run)?;
-    let row = first_row(heap, table.kinds(), start)?;
+    let row = start.first_row(heap, table.kinds())?;
     Ok(ReadyRun {
         table,
         row,
