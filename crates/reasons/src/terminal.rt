@@ -1,4 +1,5 @@
-// Pictures as text. No line of them has more than 79 columns.
+// Pictures as text. No line of them has more than 79 columns. Each print is a write of its own, and a stream may fail between two: so a
+// line is put together first, and printed whole.
 use crate::canvas::Canvas;
 use faults::fault::Fault;
 use text::print::{Alphabet, write_cells};
@@ -20,11 +21,11 @@ impl Canvas for Terminal<'_> {
     }
 
     fn digits(&mut self, label: &str, digits: &[usize]) -> Result<(), Fault> {
-        print!(self.rt; "{label:<14}")?;
+        let mut line = format!(in self.rt.alloc(); "{label:<14}")?;
         for digit in digits {
-            print!(self.rt; " {digit:x}")?;
+            write!(line, " {digit:x}")?;
         }
-        Ok(println!(self.rt)?)
+        self.words(line.as_str())
     }
 
     fn set(
@@ -34,17 +35,17 @@ impl Canvas for Terminal<'_> {
         members: &[bool],
         note: &str,
     ) -> Result<(), Fault> {
-        match last {
-            Some(cell) => print!(self.rt; "{cells:>5}{cell:>6x}   ")?,
-            None => print!(self.rt; "{cells:>5}{:9}", "")?,
-        }
+        let mut line = match last {
+            Some(cell) => format!(in self.rt.alloc(); "{cells:>5}{cell:>6x}   ")?,
+            None => format!(in self.rt.alloc(); "{cells:>5}{:9}", "")?,
+        };
         for &member in members {
-            print!(self.rt; "{}", if member { " #" } else { " ." })?;
+            line.push_str(if member { " #" } else { " ." })?;
         }
-        if note.is_empty() {
-            return Ok(println!(self.rt)?);
+        if !note.is_empty() {
+            write!(line, "   {note}")?;
         }
-        Ok(println!(self.rt; "   {note}")?)
+        self.words(line.as_str())
     }
 
     fn endless(&mut self, label: &str, cells: &[u32]) -> Result<(), Fault> {
@@ -58,10 +59,10 @@ impl Canvas for Terminal<'_> {
             .iter()
             .rposition(|&marked| marked)
             .map_or(0, |last| last.saturating_add(1));
-        print!(self.rt; "{label:<12}")?;
+        let mut line = format!(in self.rt.alloc(); "{label:<12}")?;
         for &marked in marks.iter().take(shown) {
-            print!(self.rt; "{}", if marked { mark } else { ' ' })?;
+            line.push(if marked { mark } else { ' ' })?;
         }
-        Ok(println!(self.rt)?)
+        self.words(line.as_str())
     }
 }
