@@ -7,14 +7,54 @@ use answers::endless::{EndlessRow, two_rows};
 use answers::given::GivenRule;
 use answers::workspace::Workspace;
 use faults::fault::Fault;
+use faults::name::Name;
+use faults::no_words::BadCells;
 use rules::local::LocalRule;
 use std::alloc::Global;
+use text::parse::NoCells;
 use twins::Lengths;
 use undone::Decided;
 use vector_lines::{AnswersVectors, answer_vectors, have_one_next};
 
-fn main(rt: HostRuntime) -> Result<(), Fault> {
-    answer_vectors(&rt, &mut Decisions(Workspace::new(rt.alloc())?))
+fn main(rt: HostRuntime) -> Result<(), NotAnswered> {
+    Ok(answer_rules(&rt)?)
+}
+
+fn answer_rules(rt: &HostRuntime) -> Result<(), Fault> {
+    answer_vectors(rt, &mut Decisions(Workspace::new(rt.alloc())?))
+}
+
+// Why the rules are not answered to their end, as it is told on standard error.
+#[derive(Debug, Drop)]
+enum NotAnswered {
+    // A line that does not begin with kinds, width and table.
+    FewArguments,
+    Cells {
+        name: Name,
+        reason: NoCells,
+        kinds: u32,
+    },
+    Fault(Fault),
+}
+
+impl From<Fault> for NotAnswered {
+    fn from(fault: Fault) -> NotAnswered {
+        match fault {
+            Fault::NoRule(_) => NotAnswered::FewArguments,
+            Fault::Cells(
+                BadCells {
+                    name,
+                    reason,
+                    kinds,
+                },
+            ) => NotAnswered::Cells {
+                name,
+                reason,
+                kinds,
+            },
+            fault => NotAnswered::Fault(fault),
+        }
+    }
 }
 
 // Rules that are answered as the file has them.
