@@ -5,7 +5,7 @@ use Rattle.std.proofs.lemmas.Nat.{div-add-mod', div_below, div-mul-add, mod-mul-
 use Rattle.std.proofs.ByRecursion.{All-take, All-drop}
 use Rattle.std.proofs.lemmas.List.{nil_from_length}
 use Rattle.rules.specs.Rules.{Rule, Formed, Piece, digits, at, next, blocks_of}
-use Rattle.theory.specs.Says.{FromNothing}
+use Rattle.theory.specs.Says.{FromNothing, FirstOrphan}
 use Rattle.orphans.specs.Sets.{In}
 use Rattle.orphans.specs.Subsets.{Follows, SetsTell, follow, after, reached}
 use Rattle.rules.proofs.Digits.{digits-after, digits_lt, digits_more, same_from_digits, piece_of}
@@ -147,8 +147,22 @@ module _ (r : Rule) (formed : Formed r) where
   reached_from_orphan x (cells, from-none) =
       empty_from_members (reached r x) (λ j member. let (u, (cells_u, (long, from)), _) = (in_reached_number x j).0 member in from-none u cells_u long from)
 
-  tells : SetsTell r
+  -- what the sets tell of any table that fits
+  pub tells : SetsTell r
   tells = record { ends = in_reached; orphans = λ x cells. (orphan_from_reached x cells, reached_from_orphan x) }
+
+  -- of the words that lead to the empty set a shortest one, and of these the first by its digits, is the first orphan
+  pub first_orphan_from_reached : (x : List ℕ) → Piece r x → reached r x ≡ 0 → ((y : List ℕ) → Piece r y → reached r y ≡ 0 → length x ≤ length y) → ((y : List ℕ) → Piece r y → reached r y ≡ 0 → length y ≡ length x → number r x ≤ number r y) → FirstOrphan r x
+  first_orphan_from_reached x cells empty shortest first =
+      record {
+        is = orphan_from_reached x cells empty;
+        shortest = λ y orphan. shortest y orphan.0 (reached_from_orphan y orphan);
+        first = λ y orphan. first y orphan.0 (reached_from_orphan y orphan);
+      }
+
+  -- where no word leads to the empty set, there is no orphan
+  pub no_orphan_from_reached : ((x : List ℕ) → Piece r x → reached r x ≡ 0 → ⊥) → (x : List ℕ) → FromNothing r x → ⊥
+  no_orphan_from_reached never x orphan = never x orphan.0 (reached_from_orphan x orphan)
 
 -- what the sets tell of a checked table
 pub tells_local : (l : LocalRule) → SetsTell (the_rule l)
